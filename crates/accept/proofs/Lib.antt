@@ -1,0 +1,3 @@
+pub mod NoKind
+pub mod Tables
+pub mod Refused

@@ -1,0 +1,64 @@
+-- A check that refuses decides what an operation says; one that passes leaves it to what comes after.
+-- Assumes nothing.
+use mathlib.Core.Path.{_≡_, refl, sym, ap, _∙_}
+use mathlib.Core.List.{List, [], _∷_}
+use Prim.Native.Nat.{ℕ}
+use lib.ListN.{getD}
+use Rattle.spec.specs.Refusals.{Said, refused, passed, fits, broken, filled, list, Check, judge}
+use Rattle.spec.proofs.Judge.{judge-refused}
+use Rattle.accept.specs.declared.form.Refusal.{Refusal}
+use Rattle.accept.specs.declared.form.Refusal.the-variants.{Boxes, MakerLength, DepotLength, RecordCount, BadRecord, SheetByte, GivenLength, OutLength, ListByte}
+use Rattle.accept.specs.Form.{refusalSays}
+
+-- every refusal of form has a number and a place
+pub numbered : (why : Refusal) → (number : ℕ) × (place : ℕ) × (refusalSays why ≡ refused number place)
+numbered Boxes = (1, 0, refl)
+numbered MakerLength = (2, 0, refl)
+numbered DepotLength = (2, 1, refl)
+numbered RecordCount = (2, 2, refl)
+numbered (BadRecord number) = (3, number, refl)
+numbered (SheetByte box) = (4, box, refl)
+numbered GivenLength = (5, 0, refl)
+numbered OutLength = (5, 1, refl)
+numbered (ListByte box) = (6, box, refl)
+
+pub refusal-said : (why : Refusal) (cs : List Check) (after : Said) → refusalSays why ≡ judge cs passed → refusalSays why ≡ judge cs after
+refusal-said why cs after e =
+    let r = numbered why in
+    r .2 ∙ sym (judge-refused cs after (sym e ∙ r .2))
+
+-- the refusal that a number and a place stand for
+refusalFor : Said → Refusal
+refusalFor (refused number place) =
+    getD
+    (Boxes
+    ∷ Boxes
+    ∷ getD (MakerLength ∷ DepotLength ∷ RecordCount ∷ []) place Boxes
+    ∷ BadRecord place
+    ∷ SheetByte place
+    ∷ getD (GivenLength ∷ OutLength ∷ []) place Boxes
+    ∷ ListByte place
+    ∷ [])
+    number
+    Boxes
+refusalFor passed = Boxes
+refusalFor fits = Boxes
+refusalFor (broken number) = Boxes
+refusalFor (filled boxes) = Boxes
+refusalFor list = Boxes
+
+refusal-back : (why : Refusal) → refusalFor (refusalSays why) ≡ why
+unfolding refusalFor
+refusal-back Boxes = refl
+refusal-back MakerLength = refl
+refusal-back DepotLength = refl
+refusal-back RecordCount = refl
+refusal-back (BadRecord number) = refl
+refusal-back (SheetByte box) = refl
+refusal-back GivenLength = refl
+refusal-back OutLength = refl
+refusal-back (ListByte box) = refl
+
+-- what a refusal says tells it from every other
+pub refusal-unique : (why other : Refusal) → refusalSays why ≡ refusalSays other → why ≡ other
+refusal-unique why other e = sym (refusal-back why) ∙ ap refusalFor e ∙ refusal-back other

@@ -1,0 +1,127 @@
+// The checks of form: refusals 1 to 6, in the order of the paper's table. The first that applies is given.
+ghost use mathlib.Core.Path.{_≡_};
+ghost use Prim.Native.Nat.{ℕ};
+ghost use lib.ListN.{length, getD};
+ghost use lib.Dec.{ltb};
+ghost use mathlib.Core.List.{_∷_, []};
+ghost use Rattle.lemmas.specs.Lowest.{lowest};
+ghost use Rattle.spec.specs.Records.{recordAt, recordCount, bad};
+ghost use Rattle.spec.specs.Refusals.{passed, judge, tableChecks, sheetCheck, givenCheck, outCheck, listCheck};
+ghost use Rattle.accept.specs.Record.{WholeRecords};
+ghost use Rattle.accept.specs.Form.{formSays};
+use crate::record::is_bad;
+use crate::record::record_at;
+
+// What is wrong with the form of a call.
+pub enum Refusal {
+    Boxes,
+    MakerLength,
+    DepotLength,
+    RecordCount,
+    BadRecord(usize),
+    SheetByte(usize),
+    GivenLength,
+    OutLength,
+    ListByte(usize),
+}
+
+pub enum Form {
+    Passed,
+    Refused(Refusal),
+}
+
+// The lowest bad record, or the number of records where none is bad.
+fn first_bad<'a>(maker: &'a [u8], depot: &'a [u8], n: usize) -> usize
+    requires { ⌜ WholeRecords (now maker) (now depot) ⌝ }
+    ensures { λ r. ⌜ r ≡ lowest (λ i. bad n (recordAt (now (maker .entry)) (now (depot .entry)) i)) (recordCount (now (maker .entry)) (now (depot .entry))) ⌝ }
+{
+    let count = maker.len() / 8 + depot.len() / 8;
+    let mut i = 0;
+    while i < count {
+        if is_bad(n, record_at(maker, depot, i)) {
+            return i;
+        }
+        i += 1;
+    }
+    i
+}
+
+// The lowest byte above `top`, or the length where none is.
+fn first_above(s: &[u8], top: u8) -> usize
+    ensures { λ r. ⌜ r ≡ lowest (λ b. ltb top (getD (now (s .entry)) b 0)) (length (now (s .entry))) ⌝ }
+{
+    let mut i = 0;
+    while i < s.len() {
+        if top < s[i] {
+            return i;
+        }
+        i += 1;
+    }
+    i
+}
+
+// 1, 2, 3
+pub fn check_tables<'a>(maker: &'a [u8], depot: &'a [u8], n: usize) -> Form
+    ensures { λ r. ⌜ formSays r ≡ judge (tableChecks n (now (maker .entry)) (now (depot .entry))) passed ⌝ }
+{
+    if 256 < n {
+        return Form::Refused(Refusal::Boxes);
+    }
+    if maker.len() % 8 != 0 {
+        return Form::Refused(Refusal::MakerLength);
+    }
+    if depot.len() % 8 != 0 {
+        return Form::Refused(Refusal::DepotLength);
+    }
+    let count = maker.len() / 8 + depot.len() / 8;
+    if 1024 < count {
+        return Form::Refused(Refusal::RecordCount);
+    }
+    let i = first_bad(maker, depot, n);
+    if i < count {
+        return Form::Refused(Refusal::BadRecord(i));
+    }
+    Form::Passed
+}
+
+// 4
+pub fn check_sheet(sheet: &[u8]) -> Form
+    ensures { λ r. ⌜ formSays r ≡ judge (sheetCheck (now (sheet .entry)) ∷ []) passed ⌝ }
+{
+    let i = first_above(sheet, 2);
+    if i < sheet.len() {
+        return Form::Refused(Refusal::SheetByte(i));
+    }
+    Form::Passed
+}
+
+// 6
+pub fn check_list(list: &[u8]) -> Form
+    ensures { λ r. ⌜ formSays r ≡ judge (listCheck (now (list .entry)) ∷ []) passed ⌝ }
+{
+    let i = first_above(list, 1);
+    if i < list.len() {
+        return Form::Refused(Refusal::ListByte(i));
+    }
+    Form::Passed
+}
+
+// 5, place 0
+pub fn check_given(given: &[u8], n: usize) -> Form
+    ensures { λ r. ⌜ formSays r ≡ judge (givenCheck n (now (given .entry)) ∷ []) passed ⌝ }
+{
+    if given.len() != n {
+        return Form::Refused(Refusal::GivenLength);
+    }
+    Form::Passed
+}
+
+// 5, place 1
+pub fn check_out(out: &[u8], n: usize) -> Form
+    ensures { λ r. ⌜ formSays r ≡ judge (outCheck n (now (out .entry)) ∷ []) passed ⌝ }
+{
+    if out.len() != n {
+        return Form::Refused(Refusal::OutLength);
+    }
+    Form::Passed
+}

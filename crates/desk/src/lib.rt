@@ -1,0 +1,5 @@
+// The desk library: every public operation with its answers, and nothing else.
+pub use accept::form::Refusal;
+pub use fits::Tested;
+pub use fits::show;
+pub use fits::test;

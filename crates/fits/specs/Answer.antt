@@ -1,0 +1,29 @@
+-- The paper's number and values for every case of Test's answer; and what it is to show a part of one of two lent tables.
+-- Assumes nothing.
+use mathlib.Core.Path.{_≡_}
+use mathlib.Core.Bool.{Bool, cond}
+use mathlib.Core.List.{List}
+use Prim.Native.Nat.{ℕ, _+_}
+use denote.Ref.{RefT, now, ptr}
+use Rattle.spec.specs.Kinds.{Place, X, Y, Z}
+use Rattle.spec.specs.Refusals.{Said, fits, broken}
+use Rattle.spec.specs.Fits.{Part, bytesOf}
+use Rattle.accept.specs.Form.{refusalSays}
+use Rattle.fits.specs.declared.Tested.{Tested}
+use Rattle.fits.specs.declared.Tested.the-variants.{Fits, Broken, Refused}
+
+abbrev pub atPlaces : Bool → Bool → Bool → Place → Bool
+atPlaces x y z X = x
+atPlaces x y z Y = y
+atPlaces x y z Z = z
+
+abbrev pub testedSays : Tested → Said
+testedSays Fits = fits
+testedSays (Broken number) = broken number
+testedSays (Refused why) = refusalSays why
+
+-- the part lies in the table that it names, where it says (a place is a block and an offset in it), and has that table's bytes
+pub record Shows (maker depot : RefT (List ℕ)) (part : Part) (r : RefT (List ℕ)) : Type 0 where
+  pub table : ptr r .0 ≡ cond (part .depots) (ptr depot .0) (ptr maker .0)
+  pub offset : ptr r .1 ≡ part .start + cond (part .depots) (ptr depot .1) (ptr maker .1)
+  pub bytes : now r ≡ bytesOf (now maker) (now depot) part

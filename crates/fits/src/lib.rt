@@ -1,0 +1,99 @@
+// Test and Show: whether a full list fits every rule by its truth table, the first record that it breaks, and that record's bytes.
+ghost use mathlib.Core.Path.{_≡_};
+ghost use Rattle.spec.specs.Kinds.{kindOf, meaning};
+ghost use Rattle.spec.specs.Fits.{isIn, breaks, firstBroken, testSays, showsPart};
+ghost use Rattle.accept.specs.Record.{asRec, WholeRecords};
+ghost use Rattle.fits.specs.Answer.{atPlaces, testedSays, Shows};
+use accept::form::Form;
+use accept::form::Refusal;
+use accept::form::check_list;
+use accept::form::check_tables;
+use accept::record::Record;
+use accept::record::record_at;
+
+pub enum Tested {
+    Fits,
+    Broken(usize),
+    Refused(Refusal),
+}
+
+// The truth tables. `z` is not looked at where the kind has none.
+fn truth(kind: u8, x: bool, y: bool, z: bool) -> bool
+    ensures { λ r. ⌜ r ≡ meaning (kindOf kind) (atPlaces x y z) ⌝ }
+{
+    match kind {
+        1 => x == y,
+        2 => !x == y,
+        3 => (x && y) == z,
+        4 => (x || y) == z,
+        _ => true,
+    }
+}
+
+// A box past the end is not in: that is where z of kinds 1 and 2 lies.
+fn is_in(list: &[u8], b: usize) -> bool
+    ensures { λ r. ⌜ r ≡ isIn (now (list .entry)) b ⌝ }
+{
+    if b < list.len() {
+        return list[b] == 1;
+    }
+    false
+}
+
+fn is_broken(list: &[u8], q: Record) -> bool
+    ensures { λ r. ⌜ r ≡ breaks (now (list .entry)) (asRec q) ⌝ }
+{
+    !truth(q.kind, is_in(list, q.x), is_in(list, q.y), is_in(list, q.z))
+}
+
+// The lowest broken record, or the number of records where none is broken.
+fn first_broken<'a>(maker: &'a [u8], depot: &'a [u8], list: &[u8]) -> usize
+    requires { ⌜ WholeRecords (now maker) (now depot) ⌝ }
+    ensures { λ r. ⌜ r ≡ firstBroken (now (maker .entry)) (now (depot .entry)) (now (list .entry)) ⌝ }
+{
+    let count = maker.len() / 8 + depot.len() / 8;
+    let mut i = 0;
+    while i < count {
+        if is_broken(list, record_at(maker, depot, i)) {
+            return i;
+        }
+        i += 1;
+    }
+    i
+}
+
+pub fn test<'a>(maker: &'a [u8], depot: &'a [u8], list: &[u8]) -> Tested
+    ensures { λ r. ⌜ testedSays r ≡ testSays (now (maker .entry)) (now (depot .entry)) (now (list .entry)) ⌝ }
+{
+    let tables = check_tables(maker, depot, list.len());
+    if let Form::Refused(why) = tables {
+        return Tested::Refused(why);
+    }
+    let bytes = check_list(list);
+    if let Form::Refused(why) = bytes {
+        return Tested::Refused(why);
+    }
+    let i = first_broken(maker, depot, list);
+    if i < maker.len() / 8 + depot.len() / 8 {
+        return Tested::Broken(i);
+    }
+    Tested::Fits
+}
+
+// The empty part at the start of the maker's table stands for every answer of Test that names no record.
+pub fn show<'a>(maker: &'a [u8], depot: &'a [u8], list: &[u8]) -> &'a [u8]
+    ensures { λ r. ⌜ Shows (maker .entry) (depot .entry) (showsPart (now (maker .entry)) (now (depot .entry)) (now (list .entry))) r ⌝ }
+{
+    let answer = test(maker, depot, list);
+    if let Tested::Broken(i) = answer {
+        let at = 8 * i;
+        if at < maker.len() {
+            let end = at + 8;
+            return &maker[at..end];
+        }
+        let start = at - maker.len();
+        let end = start + 8;
+        return &depot[start..end];
+    }
+    &maker[0..0]
+}

@@ -1,0 +1,9 @@
+pub mod Tests
+pub mod Members
+pub mod Those
+pub mod Reading
+pub mod Counts
+pub mod Lowest
+pub mod Pairs
+pub mod Same
+pub mod Table

@@ -1,0 +1,23 @@
+-- What is read from a list at an index, with what is read past its end.
+-- Assumes nothing.
+use mathlib.Core.Path.{_≡_, refl}
+use mathlib.Core.Bool.{Bool}
+use mathlib.Core.List.{List, [], _∷_}
+use Prim.Native.Nat.{ℕ, zero, suc, _<_}
+use native.Mathlib.Nat.{not-suc-le-zero, le-of-suc-le-suc}
+use lib.Dec.{T}
+use lib.ListN.{length, getD}
+use Rattle.lemmas.specs.Lists.{all}
+use Rattle.lemmas.proofs.Tests.{both-left, both-right}
+
+-- below the length it is no matter what is read past the end
+pub getD-default : {A : Type 0} (l : List A) (i : ℕ) (d e : A) → i < length l → getD l i d ≡ getD l i e
+getD-default [] i d e h = absurd (not-suc-le-zero h)
+getD-default (a ∷ l) zero d e h = refl
+getD-default (a ∷ l) (suc i) d e h = getD-default l i d e (le-of-suc-le-suc h)
+
+-- a test that every element passes, and what is read past the end, is passed at every index
+pub getD-all : {A : Type 0} (p : A → Bool) (l : List A) (d : A) → T (all p l) → T (p d) → (i : ℕ) → T (p (getD l i d))
+getD-all p [] d h k i = k
+getD-all p (a ∷ l) d h k zero = both-left (p a) (all p l) h
+getD-all p (a ∷ l) d h k (suc i) = getD-all p l d (both-right (p a) (all p l) h) k i

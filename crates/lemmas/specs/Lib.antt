@@ -1,0 +1,4 @@
+pub mod Lists
+pub mod Lowest
+pub mod Pairs
+pub mod Same

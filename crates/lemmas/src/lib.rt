@@ -1,0 +1,1 @@
+// Lists and numbers, with no word of boxes: definitions in specs/, laws in proofs/. No code.

@@ -1,0 +1,53 @@
+-- What is known of a call where Test names a broken record: the tables are accepted, and the record is one of theirs.
+-- Assumes nothing.
+use mathlib.Core.Path.{_≡_, refl, sym, _∙_, ap}
+use mathlib.Core.Bool.{Bool, true, false, cond}
+use mathlib.Core.List.{List, [], _∷_}
+use Prim.Native.Nat.{ℕ, _*_, _-_, _≤_, _<_}
+use native.Mathlib.Omega.{arith}
+use borrow.Author.Tests.{ltb-true, lt-ltb, le-ltb}
+use lib.Dec.{ltb}
+use lib.ListN.{length}
+use Rattle.spec.specs.Records.{recordCount}
+use Rattle.spec.specs.Refusals.{Said, refused, passed, fits, broken, judge, tableChecks, listCheck}
+use Rattle.spec.specs.Fits.{firstBroken, tested, testChecks, testSays, Part, recordPart, partFor, showsPart}
+use Rattle.spec.proofs.Judge.{Answers, judge-append, judge-reached}
+use Rattle.spec.proofs.Accepted.{Accepted, tables-accepted}
+
+broken-answers : (number : ℕ) → Answers (broken number)
+broken-answers number n p e = let z : _≡_ {A = ℕ} 0 1 = cc in omega arith
+
+tested-broken : (count first number : ℕ) → tested count first ≡ broken number → (first ≡ number) × (first < count)
+tested-broken count first number e = go (ltb first count) refl e
+  where
+    go : (t : Bool) → ltb first count ≡ t → cond t (broken first) fits ≡ broken number → (first ≡ number) × (first < count)
+    go true known e = (cc, ltb-true first count known)
+    go false known e = let z : _≡_ {A = ℕ} 0 1 = cc in absurd (omega arith)
+
+pub record BrokenIs (maker depot l : List ℕ) (number : ℕ) : Type 0 where
+  pub accepted : Accepted (length l) maker depot
+  pub below : number < recordCount maker depot
+
+pub broken-is : (maker depot l : List ℕ) (number : ℕ) → broken number ≡ testSays maker depot l → BrokenIs maker depot l number
+unfolding testSays
+broken-is maker depot l number e =
+    let reached = judge-reached (testChecks maker depot l) _ (broken-answers number) (sym e) in
+    let first = tested-broken (recordCount maker depot) (firstBroken maker depot l) number (reached .1) in
+    let passes = sym (judge-append (tableChecks (length l) maker depot) (listCheck l ∷ []) passed) ∙ reached .0 in
+    record {
+      accepted = tables-accepted (length l) maker depot (judge-reached (tableChecks (length l) maker depot) _ passed-answers passes .0);
+      below = omega (arith, first .0, first .1);
+    }
+  where
+    passed-answers : Answers passed
+    passed-answers n p e = let z : _≡_ {A = ℕ} 0 1 = cc in omega arith
+
+-- where the first broken record is shown: in the maker's table, or in the depot's
+module _ (maker depot l : List ℕ) (number : ℕ) (e : broken number ≡ testSays maker depot l) where
+  pub shows-maker : 8 * number < length maker → showsPart maker depot l ≡ record { depots = false; start = 8 * number; size = 8 }
+  unfolding showsPart recordPart
+  shows-maker h = ap (partFor maker) (sym e) ∙ rw (lt-ltb _ _ h)
+
+  pub shows-depot : length maker ≤ 8 * number → showsPart maker depot l ≡ record { depots = true; start = 8 * number - length maker; size = 8 }
+  unfolding showsPart recordPart
+  shows-depot h = ap (partFor maker) (sym e) ∙ rw (le-ltb _ _ h)

@@ -1,0 +1,116 @@
+-- The samples marked P, of the definitions that the promises cite, in one table under one statement.
+-- Assumes nothing.
+use mathlib.Core.Path.{_≡_, refl}
+use mathlib.Core.Bool.{Bool, true, false}
+use mathlib.Core.List.{List, [], _∷_, map}
+use Prim.Native.Nat.{ℕ}
+use Rattle.lemmas.specs.Lowest.{lowest}
+use Rattle.spec.specs.Kinds.{kindOf, placesOf, meaning}
+use Rattle.spec.specs.Rules.{rulesOf}
+use Rattle.spec.specs.Records.{recFrom, recordAt, recordCount, rulesIn, boxAt, boxesOf, noKind, lacksZ, twoEqual, bad}
+use Rattle.spec.specs.Facts.{holds}
+use Rattle.spec.specs.Rounds.{has, names, gives, follows, code, round, closed}
+use Rattle.spec.specs.Refusals.{Said, refused, fits, broken, filled, list, boxesCheck, makerCheck, depotCheck, countCheck, recordCheck, sheetCheck, givenCheck, outCheck, listCheck}
+use Rattle.spec.specs.Fits.{isIn, breaks, firstBroken, testSays, Part, recordPart, showsPart}
+use Rattle.spec.specs.Fill.{closureOf, clashes, boxesFilled, openCount, clashCheck, brokenCheck, fillSays, fillWrites}
+use Rattle.spec.specs.Kits.{keeps, fitsAll, kits, kitsAfter, isNone, headOf, noneCheck, firstSays, firstWrites, nextSays, nextWrites}
+use Rattle.spec.specs.OneRule.{recordOf, statesOf, packed, outcome}
+
+-- a call of an operation on two tables, the list of all kits, or an entry of the one-rule table
+pub data Call : Type 0 where
+  fill : (sheet : List ℕ) → Call
+  test : (l : List ℕ) → Call
+  first : (sheet : List ℕ) → Call
+  next : (sheet given : List ℕ) → Call
+  all : (sheet : List ℕ) → Call
+  entry : ℕ → Call
+
+-- what is said, and the list written; the part shown; the kits; the number held
+pub data Answer : Type 0 where
+  says : Said → List ℕ → Answer
+  shows : Said → Part → Answer
+  lists : List (List ℕ) → Answer
+  number : ℕ → Answer
+
+abbrev answer : List ℕ → List ℕ → Call → Answer
+answer m d (fill s) = says (fillSays m d s s) (fillWrites m d s s)
+answer m d (test l) = shows (testSays m d l) (showsPart m d l)
+answer m d (first s) = says (firstSays m d s s) (firstWrites m d s s)
+answer m d (next s g) = says (nextSays m d s g s) (nextWrites m d s g s)
+answer m d (all s) = lists (kits m d s)
+answer m d (entry k) = number (outcome k)
+
+pub record Sample : Type 0 where
+  pub maker : List ℕ
+  pub depot : List ℕ
+  pub call : Call
+  pub paper : Answer
+
+-- maker's record: box 0 and box 1 = box 2
+and-record : List ℕ
+and-record = 3 ∷ 0 ∷ 0 ∷ 0 ∷ 1 ∷ 0 ∷ 2 ∷ 0 ∷ []
+
+-- depot's record: box 0 = box 2
+equ-record : List ℕ
+equ-record = 1 ∷ 0 ∷ 0 ∷ 0 ∷ 2 ∷ 0 ∷ 255 ∷ 255 ∷ []
+
+-- box 0 = box 1, and not box 0 = box 1
+same-record : List ℕ
+same-record = 1 ∷ 0 ∷ 0 ∷ 0 ∷ 1 ∷ 0 ∷ 255 ∷ 255 ∷ []
+
+not-record : List ℕ
+not-record = 2 ∷ 0 ∷ 0 ∷ 0 ∷ 1 ∷ 0 ∷ 255 ∷ 255 ∷ []
+
+-- NOT of box 0 and box 0
+self-record : List ℕ
+self-record = 2 ∷ 0 ∷ 0 ∷ 0 ∷ 0 ∷ 0 ∷ 255 ∷ 255 ∷ []
+
+abbrev onA : Call → Answer → Sample
+onA c a = record { maker = and-record; depot = equ-record; call = c; paper = a }
+
+abbrev onP : Call → Answer → Sample
+onP c a = record { maker = same-record; depot = not-record; call = c; paper = a }
+
+abbrev onNone : Call → Answer → Sample
+onNone c a = record { maker = []; depot = []; call = c; paper = a }
+
+pub table : List Sample
+table =
+    onA (fill (1 ∷ 2 ∷ 2 ∷ [])) (says (filled 2) (1 ∷ 1 ∷ 1 ∷ []))
+    ∷ onA (fill (2 ∷ 0 ∷ 2 ∷ [])) (says (filled 2) (0 ∷ 0 ∷ 0 ∷ []))
+    ∷ onA (fill (2 ∷ 2 ∷ 2 ∷ [])) (says (filled 0) (2 ∷ 2 ∷ 2 ∷ []))
+    ∷ onA (fill (1 ∷ 0 ∷ 2 ∷ [])) (says (refused 7 0) (1 ∷ 0 ∷ 2 ∷ []))
+    ∷ onA (all (2 ∷ 2 ∷ 2 ∷ [])) (lists ((0 ∷ 0 ∷ 0 ∷ []) ∷ (0 ∷ 1 ∷ 0 ∷ []) ∷ (1 ∷ 1 ∷ 1 ∷ []) ∷ []))
+    ∷ onA (first (2 ∷ 2 ∷ 2 ∷ [])) (says list (0 ∷ 0 ∷ 0 ∷ []))
+    ∷ onA (next (2 ∷ 2 ∷ 2 ∷ []) (0 ∷ 1 ∷ 1 ∷ [])) (says list (1 ∷ 1 ∷ 1 ∷ []))
+    ∷ onA (next (2 ∷ 2 ∷ 2 ∷ []) (1 ∷ 1 ∷ 1 ∷ [])) (says (refused 9 0) (2 ∷ 2 ∷ 2 ∷ []))
+    ∷ onA (test (1 ∷ 0 ∷ 0 ∷ [])) (shows (broken 1) (record { depots = true; start = 0; size = 8 }))
+    ∷ onA (test (1 ∷ 1 ∷ 0 ∷ [])) (shows (broken 0) (record { depots = false; start = 0; size = 8 }))
+    ∷ onP (fill (2 ∷ 2 ∷ [])) (says (filled 0) (2 ∷ 2 ∷ []))
+    ∷ onP (first (2 ∷ 2 ∷ [])) (says (refused 9 0) (2 ∷ 2 ∷ []))
+    ∷ onNone (entry 150) (number 21)
+    ∷ onNone (entry 168) (number 40)
+    ∷ onNone (entry 201) (number 5)
+    ∷ onNone (entry 6) (number 62)
+    ∷ onNone (entry 137) (number 63)
+    ∷ onNone (entry 106) (number 42)
+    ∷ record { maker = self-record; depot = []; call = test (0 ∷ []); paper = shows (refused 3 0) (record { depots = false; start = 0; size = 0 }) }
+    ∷ []
+
+pub computed : Sample → Answer
+computed p = answer (p .maker) (p .depot) (p .call)
+
+pub paper-of : Sample → Answer
+paper-of p = p .paper
+
+-- P1 to P12: each call answers what the paper says
+pub samples : map computed table ≡ map paper-of table
+unfolding table and-record equ-record same-record not-record self-record computed paper-of
+    lowest kindOf placesOf meaning rulesOf recFrom recordAt recordCount rulesIn boxAt boxesOf noKind lacksZ twoEqual bad
+    holds has names gives follows code round closed
+    boxesCheck makerCheck depotCheck countCheck recordCheck sheetCheck givenCheck outCheck listCheck
+    isIn breaks firstBroken testSays recordPart showsPart
+    closureOf clashes boxesFilled openCount clashCheck brokenCheck fillSays fillWrites
+    keeps fitsAll kits kitsAfter isNone headOf noneCheck firstSays firstWrites nextSays nextWrites
+    recordOf statesOf packed outcome
+samples = refl

@@ -1,0 +1,12 @@
+pub mod Kinds
+pub mod Rules
+pub mod SameRule
+pub mod Minimal
+pub mod Records
+pub mod Facts
+pub mod Rounds
+pub mod Refusals
+pub mod Fits
+pub mod Fill
+pub mod Kits
+pub mod OneRule

@@ -1,0 +1,1 @@
+// The build specification as definitions (specs/) and what holds of them (proofs/). No code.
