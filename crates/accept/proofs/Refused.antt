@@ -2,7 +2,8 @@
 -- Assumes nothing.
 use mathlib.Core.Path.{_≡_, refl, sym, ap, _∙_}
 use mathlib.Core.List.{List, [], _∷_}
-use Prim.Native.Nat.{ℕ}
+use Prim.Native.Nat.{ℕ, _<_}
+use native.Mathlib.Omega.{arith}
 use lib.ListN.{getD}
 use Rattle.spec.specs.Refusals.{Said, refused, passed, fits, broken, filled, list, Check, judge}
 use Rattle.spec.proofs.Judge.{judge-refused}
@@ -10,17 +11,17 @@ use Rattle.accept.specs.declared.form.Refusal.{Refusal}
 use Rattle.accept.specs.declared.form.Refusal.the-variants.{Boxes, MakerLength, DepotLength, RecordCount, BadRecord, SheetByte, GivenLength, OutLength, ListByte}
 use Rattle.accept.specs.Form.{refusalSays}
 
--- every refusal of form has a number and a place
-pub numbered : (why : Refusal) → (number : ℕ) × (place : ℕ) × (refusalSays why ≡ refused number place)
-numbered Boxes = (1, 0, refl)
-numbered MakerLength = (2, 0, refl)
-numbered DepotLength = (2, 1, refl)
-numbered RecordCount = (2, 2, refl)
-numbered (BadRecord number) = (3, number, refl)
-numbered (SheetByte box) = (4, box, refl)
-numbered GivenLength = (5, 0, refl)
-numbered OutLength = (5, 1, refl)
-numbered (ListByte box) = (6, box, refl)
+-- every refusal of form has a number, which is below 7, and a place
+pub numbered : (why : Refusal) → (number : ℕ) × (place : ℕ) × (refusalSays why ≡ refused number place) × (number < 7)
+numbered Boxes = (1, 0, refl, omega arith)
+numbered MakerLength = (2, 0, refl, omega arith)
+numbered DepotLength = (2, 1, refl, omega arith)
+numbered RecordCount = (2, 2, refl, omega arith)
+numbered (BadRecord number) = (3, number, refl, omega arith)
+numbered (SheetByte box) = (4, box, refl, omega arith)
+numbered GivenLength = (5, 0, refl, omega arith)
+numbered OutLength = (5, 1, refl, omega arith)
+numbered (ListByte box) = (6, box, refl, omega arith)
 
 pub refusal-said : (why : Refusal) (cs : List Check) (after : Said) → refusalSays why ≡ judge cs passed → refusalSays why ≡ judge cs after
 refusal-said why cs after e =
@@ -28,7 +29,7 @@ refusal-said why cs after e =
     r .2 ∙ sym (judge-refused cs after (sym e ∙ r .2))
 
 -- the refusal that a number and a place stand for
-refusalFor : Said → Refusal
+unfoldable pub refusalFor : Said → Refusal
 refusalFor (refused number place) =
     getD
     (Boxes
@@ -47,7 +48,7 @@ refusalFor (broken number) = Boxes
 refusalFor (filled boxes) = Boxes
 refusalFor list = Boxes
 
-refusal-back : (why : Refusal) → refusalFor (refusalSays why) ≡ why
+pub refusal-back : (why : Refusal) → refusalFor (refusalSays why) ≡ why
 unfolding refusalFor
 refusal-back Boxes = refl
 refusal-back MakerLength = refl

@@ -47,7 +47,7 @@ fn is_broken(list: &[u8], q: Record) -> bool
 }
 
 // The lowest broken record, or the number of records where none is broken.
-fn first_broken<'a>(maker: &'a [u8], depot: &'a [u8], list: &[u8]) -> usize
+pub fn first_broken<'a>(maker: &'a [u8], depot: &'a [u8], list: &[u8]) -> usize
     requires { ⌜ WholeRecords (now maker) (now depot) ⌝ }
     ensures { λ r. ⌜ r ≡ firstBroken (now (maker .entry)) (now (depot .entry)) (now (list .entry)) ⌝ }
 {

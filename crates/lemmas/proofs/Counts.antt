@@ -3,8 +3,9 @@
 use mathlib.Core.Path.{_≡_, refl}
 use mathlib.Core.Bool.{Bool, true, false, cond}
 use mathlib.Core.List.{List, [], _∷_, List·Memᴰ, List·Memᴰ·head, List·Memᴰ·tail}
-use Prim.Native.Nat.{ℕ, suc, _+_, _≤_}
+use Prim.Native.Nat.{ℕ, suc, _+_, _≤_, _<_}
 use native.Mathlib.Omega.{arith}
+use native.Mathlib.Decide.{decLt}
 use lib.Dec.{T}
 use lib.ListN.{length}
 use Rattle.lemmas.specs.Lists.{count}
@@ -70,3 +71,12 @@ module _ {A : Type 0} where
         (omega (arith, count-cons p x xs, count-cons q x xs, bit-mono (p x) (q x) (h x (List·Memᴰ·head refl))))
         m
         t
+
+    -- one passes the wider test alone: then fewer pass the narrower
+    pub count-less : {l : List A} → ((a : A) → List·Memᴰ a l → T (p a) → T (q a)) →
+        {a : A} → List·Memᴰ a l → (T (p a) → ⊥) → T (q a) → count p l < count q l
+    count-less {l} h m fails passes = at (decLt (count p l) (count q l))
+      where
+        at : Dec (count p l < count q l) → count p l < count q l
+        at (yes less) = less
+        at (no more) = absurd (fails (count-back h (omega arith) m passes))

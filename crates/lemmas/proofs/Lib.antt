@@ -7,3 +7,7 @@ pub mod Lowest
 pub mod Pairs
 pub mod Same
 pub mod Table
+pub mod Indexed
+pub mod Copying
+pub mod Ascending
+pub mod Implies

@@ -5,8 +5,10 @@ use mathlib.Core.Bool.{Bool}
 use mathlib.Core.List.{List, [], _∷_}
 use Prim.Native.Nat.{ℕ, zero, suc, _<_}
 use native.Mathlib.Nat.{not-suc-le-zero, le-of-suc-le-suc}
+use native.Mathlib.Omega.{arith}
+use native.Mathlib.Decide.{decLt}
 use lib.Dec.{T}
-use lib.ListN.{length, getD}
+use lib.ListN.{length, getD, List·getD-eq-default}
 use Rattle.lemmas.specs.Lists.{all}
 use Rattle.lemmas.proofs.Tests.{both-left, both-right}
 
@@ -21,3 +23,20 @@ pub getD-all : {A : Type 0} (p : A → Bool) (l : List A) (d : A) → T (all p l
 getD-all p [] d h k i = k
 getD-all p (a ∷ l) d h k zero = both-left (p a) (all p l) h
 getD-all p (a ∷ l) d h k (suc i) = getD-all p l d (both-right (p a) (all p l) h) k i
+
+-- what holds below the length, and of what is read past the end, holds at every index
+pub getD-each : {A : Type 0} (P : A → Type 0) (l : List A) (d e : A) → ((i : ℕ) → i < length l → P (getD l i d)) → P e →
+    (i : ℕ) → P (getD l i e)
+getD-each P l d e h past i = at (decLt i (length l))
+  where
+    at : Dec (i < length l) → P (getD l i e)
+    at (yes below) = rw (getD-default l i e d below) (h i below)
+    at (no above) = rw (List·getD-eq-default l e {n = i} (omega arith)) past
+
+-- where something else is read than past the end, it is read before the end
+pub getD-within : {A : Type 0} (l : List A) (i : ℕ) (d : A) → (getD l i d ≡ d → ⊥) → i < length l
+getD-within l i d h = at (decLt i (length l))
+  where
+    at : Dec (i < length l) → i < length l
+    at (yes below) = below
+    at (no above) = absurd (h (List·getD-eq-default l d {n = i} (omega arith)))

@@ -11,7 +11,7 @@ use lib.Dec.{T, eqb}
 use lib.ListN.{length, getD, List·getD-eq-default}
 use lib.Seq.{ext-getD}
 use Rattle.lemmas.proofs.Tests.{T-same}
-use Rattle.lemmas.proofs.Reading.{getD-default}
+use Rattle.lemmas.proofs.Reading.{getD-each}
 use Rattle.spec.specs.Facts.{holds}
 use Rattle.spec.specs.Rounds.{code}
 
@@ -21,11 +21,7 @@ Codes s = (b : ℕ) → getD s b 2 ≤ 3
 
 -- it is enough to look below the length, whatever is read past it
 pub codes-below : (s : List ℕ) (d : ℕ) → ((b : ℕ) → b < length s → getD s b d ≤ 3) → Codes s
-codes-below s d h b = at (decLt b (length s))
-  where
-    at : Dec (b < length s) → getD s b 2 ≤ 3
-    at (yes l) = rw (getD-default s b 2 d l) (h b l)
-    at (no l) = rw (List·getD-eq-default s 2 {n = b} (omega arith)) (omega arith)
+codes-below s d h = getD-each (λ c. c ≤ 3) s d 2 h (omega arith)
 
 -- the fact that a code tells
 tells : ℕ → Bool → Bool

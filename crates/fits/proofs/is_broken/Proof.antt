@@ -35,11 +35,13 @@ reads-are e f g i = atPlaces (e i) (f i) (g i)
 
 returns : tie.Need-returns
 unfolding breaks boxAt
-returns c = ap not
+returns c =
+    let start = c .before .before .before .before .before in
+    ap not
     (c .truth .ensures
-    ∙ ap (meaning (kindOf (c .before .before .before .before .before .args .q .kind)))
+    ∙ ap (meaning (kindOf (start .args .q .kind)))
     (reads-are (c .before .before .before .is-in .ensures) (c .before .before .is-in2 .ensures) (c .before .is-in3 .ensures)
-    ∙ read-places (c .before .before .before .before .before .args .list .now) (asRec (c .before .before .before .before .before .args .q))))
+    ∙ read-places (start .args .list .now) (asRec (start .args .q))))
 
 pub is-broken-spec : {M : Type 1} → statement M
 is-broken-spec =

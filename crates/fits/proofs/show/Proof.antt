@@ -83,8 +83,9 @@ part-result-end-2 c =
 returns-2 : tie.Need-returns-2
 unfolding bytesOf
 returns-2 c =
+    let start = c .before .before .before .before .before .before .before .before .before in
     rw (shows-depot _ _ _ _ (says-so (c .before .before)) (c .before .if1 .left))
-    (record { table = refl; offset = refl; bytes = eight-bytes (c .before .before .before .before .before .before .before .before .before .args .depot .now) (8 * c .before .before .before .answer .given .0 .0 - length (c .before .before .before .before .before .before .before .before .before .args .maker .now)) })
+    (record { table = refl; offset = refl; bytes = eight-bytes (start .args .depot .now) (8 * c .before .before .before .answer .given .0 .0 - length (start .args .maker .now)) })
 
 sub-result-3 : tie.Need-sub-result-3
 sub-result-3 c = search needs

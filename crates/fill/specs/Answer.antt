@@ -1,0 +1,32 @@
+-- The paper's number and values for every case of Fill's answer, and Fill's promise.
+-- Assumes nothing.
+use mathlib.Core.Path.{_≡_}
+use mathlib.Core.List.{List}
+use Prim.Native.Nat.{ℕ}
+use Rattle.spec.specs.Records.{rulesIn}
+use Rattle.spec.specs.Facts as facts
+use Rattle.spec.specs.Refusals.{Said, refused, passed, filled, judge}
+use Rattle.spec.specs.Fill.{closureOf, fillForm, fillSays, fillWrites}
+use Rattle.accept.specs.Form.{refusalSays}
+use Rattle.fill.specs.declared.operation.Filled.{Filled}
+use Rattle.fill.specs.declared.operation.Filled.the-variants.{Boxes, Clash, Broken, Refused}
+
+abbrev pub filledSays : Filled → Said
+filledSays (Boxes count) = filled count
+filledSays Clash = refused 7 0
+filledSays (Broken number) = refused 8 number
+filledSays (Refused why) = refusalSays why
+
+-- the promise: the answer, and every byte of the out buffer
+pub record FillDoes (maker depot sheet out : List ℕ) (answer : Filled) (left : List ℕ) : Type 0 where
+  pub says : filledSays answer ≡ fillSays maker depot sheet out
+  pub writes : left ≡ fillWrites maker depot sheet out
+
+-- the checks of form have passed
+pub record InForm (maker depot sheet out : List ℕ) : Type 0 where
+  pub form : judge (fillForm maker depot sheet out) passed ≡ passed
+
+-- the closure of the sheet, without a clash
+pub record IsFilled (maker depot sheet filled : List ℕ) : Type 0 where
+  pub closure : filled ≡ closureOf maker depot sheet
+  pub unclashed : (b : ℕ) → facts.Clash (rulesIn maker depot) sheet b → ⊥

@@ -1,0 +1,4 @@
+pub mod Tree
+pub mod Agree
+pub mod Fired
+pub mod Table

@@ -1,0 +1,71 @@
+-- The code's matches as definitions that compute: a tree of tests for each kind, in the code's order.
+-- Assumes nothing.
+use mathlib.Core.Path.{_≡_}
+use mathlib.Core.Bool.{Bool, cond}
+use mathlib.Core.List.{List, [], _∷_}
+use Prim.Native.Nat.{ℕ, _<_}
+use native.Mathlib.Decide.{decLt}
+use native.Mathlib.Omega.{arith}
+use lib.Dec.{eqb}
+use lib.ListN.{getD, List·getD-eq-default}
+use borrow.Author.Tests.{ne-eqb}
+use Rattle.fire.specs.States.{three}
+
+abbrev out : ℕ → Bool
+out state = eqb state 0
+
+abbrev in′ : ℕ → Bool
+in′ state = eqb state 1
+
+-- neither out nor in, as the code's third arm has it
+pub at-open : {s : ℕ} → (Unit {0} × (s ≡ 0 → ⊥)) × (s ≡ 1 → ⊥) → {A : Type 0} (a b c : A) → cond (out s) a (cond (in′ s) b c) ≡ c
+at-open n a b c = rw (ne-eqb _ _ (n .0 .1), ne-eqb _ _ (n .1))
+
+-- from three states to three
+abbrev pub Step : Type 0
+Step = (x y z : ℕ) → List ℕ
+
+abbrev equTree : Step
+equTree x y z =
+    cond (out x) (cond (in′ y) (three 3 3 z) (three x 0 z))
+    (cond (in′ x) (cond (out y) (three 3 3 z) (three x 1 z))
+    (cond (out y) (three 0 y z) (cond (in′ y) (three 1 y z) (three x y z))))
+
+abbrev notTree : Step
+notTree x y z =
+    cond (out x) (cond (out y) (three 3 3 z) (three x 1 z))
+    (cond (in′ x) (cond (in′ y) (three 3 3 z) (three x 0 z))
+    (cond (out y) (three 1 y z) (cond (in′ y) (three 0 y z) (three x y z))))
+
+abbrev andTree : Step
+andTree x y z =
+    cond (out z)
+    (cond (in′ x) (cond (in′ y) (three 3 3 3) (three x 0 z)) (cond (in′ y) (three 0 y z) (three x y z)))
+    (cond (in′ z) (cond (out x) (three 3 3 3) (cond (out y) (three 3 3 3) (three 1 1 z)))
+    (cond (out x) (three x y 0)
+    (cond (in′ x) (cond (out y) (three x y 0) (cond (in′ y) (three x y 1) (three x y z)))
+    (cond (out y) (three x y 0) (three x y z)))))
+
+abbrev orTree : Step
+orTree x y z =
+    cond (out z) (cond (in′ x) (three 3 3 3) (cond (in′ y) (three 3 3 3) (three 0 0 z)))
+    (cond (in′ z)
+    (cond (out x) (cond (out y) (three 3 3 3) (three x 1 z)) (cond (out y) (three 1 y z) (three x y z)))
+    (cond (out x) (cond (out y) (three x y 0) (cond (in′ y) (three x y 1) (three x y z)))
+    (cond (in′ x) (three x y 1)
+    (cond (in′ y) (three x y 1) (three x y z)))))
+
+-- by the kind's number: 1 EQU, 2 NOT, 3 AND, 4 OR
+abbrev trees : List Step
+trees = three ∷ equTree ∷ notTree ∷ andTree ∷ orTree ∷ []
+
+abbrev pub tree : ℕ → Step
+tree kind = getD trees kind three
+
+-- a number that is no kind leaves the states as they are
+pub tree-none : (kind : ℕ) → (kind ≡ 1 → ⊥) → (kind ≡ 2 → ⊥) → (kind ≡ 3 → ⊥) → (kind ≡ 4 → ⊥) → tree kind ≡ three
+tree-none kind a b c d = at (decLt kind 5)
+  where
+    at : Dec (kind < 5) → tree kind ≡ three
+    at (yes l) = let e : kind ≡ 0 = omega arith in rw e
+    at (no l) = List·getD-eq-default trees three {n = kind} (omega arith)

@@ -1,0 +1,31 @@
+-- Three states as the code holds them, and what it is to have fired every rule of one record on them.
+-- Assumes nothing.
+use mathlib.Core.Path.{_≡_}
+use mathlib.Core.List.{List, [], _∷_}
+use Prim.Native.Nat.{ℕ, _≤_}
+use Rattle.spec.specs.Rounds.{closed}
+use Rattle.spec.specs.OneRule.{alone}
+use Rattle.fire.specs.declared.States.{States}
+
+abbrev pub three : (x y z : ℕ) → List ℕ
+three x y z = x ∷ y ∷ z ∷ []
+
+abbrev pub listOf : States → List ℕ
+listOf r = three (r .x) (r .y) (r .z)
+
+-- states as a sheet has them: out, in or open
+pub record OnSheet (x y z : ℕ) : Type 0 where
+  pub x-state : x ≤ 2
+  pub y-state : y ≤ 2
+  pub z-state : z ≤ 2
+
+-- the closure of the three states under a record of this kind alone, on three different boxes
+abbrev pub closedAlone : (kind x y z : ℕ) → List ℕ
+closedAlone kind x y z = closed (alone kind ∷ []) (three x y z)
+
+-- r is that closure; its states are out, in, open or both
+pub record Fired (kind x y z : ℕ) (r : States) : Type 0 where
+  pub closure : listOf r ≡ closedAlone kind x y z
+  pub x-code : r .x ≤ 3
+  pub y-code : r .y ≤ 3
+  pub z-code : r .z ≤ 3

@@ -1,0 +1,47 @@
+-- Tables and a sheet that pass their checks: First passes its form with every out buffer of the sheet's length, and Next besides
+-- with every full list given.
+-- Assumes nothing.
+use mathlib.Core.Path.{_≡_, _∙_}
+use mathlib.Core.Bool.{false}
+use mathlib.Core.List.{List, [], _∷_, _++_}
+use Prim.Native.Nat.{ℕ, _<_}
+use native.Mathlib.Omega.{arith}
+use borrow.Author.Tests.{eq-eqb, le-ltb}
+use lib.Dec.{ltb}
+use lib.ListN.{length, getD}
+use Rattle.lemmas.specs.Lowest.{lowest}
+use Rattle.lemmas.proofs.Lowest.{lowest-none}
+use Rattle.lemmas.proofs.Reading.{getD-default}
+use Rattle.spec.specs.Refusals.{Check, passed, judge, tableChecks, sheetCheck, givenCheck, outCheck, listCheck}
+use Rattle.spec.specs.Kits.{firstForm, nextForm}
+use Rattle.spec.proofs.Judge.{judge-append, judge-passed}
+use Rattle.kits.specs.Kit.{IsFull}
+
+-- the checks of the tables and the sheet: 1, 2, 3, 4
+abbrev pub sheetForm : List ℕ → List ℕ → List ℕ → List Check
+sheetForm maker depot sheet = tableChecks (length sheet) maker depot ++ sheetCheck sheet ∷ []
+
+list-passes : (n : ℕ) (l : List ℕ) → IsFull n l → listCheck l .when ≡ false
+unfolding listCheck
+list-passes n l full =
+    le-ltb (lowest (λ b. ltb 1 (getD l b 0)) (length l)) (length l)
+    (omega (arith, lowest-none (λ b. ltb 1 (getD l b 0)) (length l) small))
+  where
+    small : (b : ℕ) → b < length l → ltb 1 (getD l b 0) ≡ false
+    small b i = le-ltb 1 (getD l b 0) (omega (arith, getD-default l b 0 2 i, full .bits b (omega (arith, full .boxes))))
+
+module _ (maker depot sheet : List ℕ) (passes : judge (sheetForm maker depot sheet) passed ≡ passed)
+    (out : List ℕ) (same : length out ≡ length sheet) where
+  pub first-passes : judge (firstForm maker depot sheet out) passed ≡ passed
+  unfolding outCheck
+  first-passes =
+      judge-append (sheetForm maker depot sheet) (outCheck (length sheet) out ∷ []) passed
+      ∙ judge-passed (sheetForm maker depot sheet) _ passes
+      ∙ rw (eq-eqb _ _ same)
+
+  pub next-passes : (given : List ℕ) → IsFull (length sheet) given → judge (nextForm maker depot sheet given out) passed ≡ passed
+  unfolding outCheck givenCheck
+  next-passes given full =
+      judge-append (sheetForm maker depot sheet) (givenCheck (length sheet) given ∷ outCheck (length sheet) out ∷ listCheck given ∷ []) passed
+      ∙ judge-passed (sheetForm maker depot sheet) _ passes
+      ∙ rw (eq-eqb _ _ (full .boxes), eq-eqb _ _ same, list-passes (length sheet) given full)

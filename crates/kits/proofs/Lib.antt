@@ -1,0 +1,14 @@
+pub mod Order
+pub mod Answers
+pub mod FullLists
+pub mod Kits
+pub mod Says
+pub mod Sheets
+pub mod States
+pub mod Forced
+pub mod AtRest
+pub mod Branch
+pub mod Bound
+pub mod Form
+pub mod Runs
+pub mod Demand

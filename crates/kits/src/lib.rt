@@ -1,0 +1,1 @@
+// Kits and the order of full lists: definitions and laws alone.

@@ -1,0 +1,79 @@
+// The sheet by value: 256 states, those past the sheet's end open. A sheet with one more box settled is a new sheet.
+ghost use mathlib.Core.Path.{_≡_};
+ghost use Prim.Native.Nat.{_≤_, _<_};
+ghost use lib.ListN.{length, set};
+ghost use Rattle.spec.specs.Fill.{boxesFilled, openCount};
+ghost use Rattle.theory.specs.Steps.{Loaded};
+
+const OPEN: u8 = 2;
+
+pub struct Sheet {
+    pub states: [u8; 256],
+}
+
+impl Sheet {
+    // The sheet with box b settled; the old one is still there for the other choice.
+    pub fn settled(mut self, b: usize, state: u8) -> Sheet
+        requires { ⌜ b < 256 ⌝ }
+        ensures { λ r. ⌜ r .states ≡ set (self .states) b state ⌝ }
+    {
+        self.states[b] = state;
+        self
+    }
+}
+
+pub fn load(sheet: &[u8]) -> Sheet
+    requires { ⌜ length (now sheet) ≤ 256 ⌝ }
+    ensures { λ r. ⌜ Loaded (now (sheet .entry)) (r .states) ⌝ }
+{
+    let mut states = [OPEN; 256];
+    let mut b = 0;
+    while b < sheet.len() {
+        states[b] = sheet[b];
+        b += 1;
+    }
+    Sheet { states }
+}
+
+pub fn store(filled: &[u8], out: &mut [u8])
+    requires { ⌜ length (now out) ≡ length (now filled) ⌝ }
+    ensures { λ r. ⌜ now (out .exit) ≡ now (filled .entry) ⌝ }
+{
+    let mut b = 0;
+    while b < out.len() {
+        out[b] = filled[b];
+        b += 1;
+    }
+}
+
+// The boxes that were open on the one sheet and are not on the other.
+pub fn count_filled(sheet: &[u8], filled: &[u8]) -> usize
+    requires { ⌜ length (now sheet) ≡ length (now filled) ⌝ }
+    ensures { λ r. ⌜ r ≡ boxesFilled (now (sheet .entry)) (now (filled .entry)) ⌝ }
+{
+    let mut n = 0;
+    let mut b = 0;
+    while b < sheet.len() {
+        if sheet[b] == OPEN {
+            if filled[b] != OPEN {
+                n += 1;
+            }
+        }
+        b += 1;
+    }
+    n
+}
+
+pub fn count_open(sheet: &[u8]) -> usize
+    ensures { λ r. ⌜ r ≡ openCount (now (sheet .entry)) ⌝ }
+{
+    let mut n = 0;
+    let mut b = 0;
+    while b < sheet.len() {
+        if sheet[b] == OPEN {
+            n += 1;
+        }
+        b += 1;
+    }
+    n
+}

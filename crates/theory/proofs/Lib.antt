@@ -1,0 +1,13 @@
+pub mod States
+pub mod Places
+pub mod Stability
+pub mod Growth
+pub mod Loading
+pub mod Storing
+pub mod Embedding
+pub mod Stepping
+pub mod Measure
+pub mod Numbered
+pub mod Form
+pub mod Filling
+pub mod Demand
