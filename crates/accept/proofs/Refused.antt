@@ -1,12 +1,12 @@
 -- A check that refuses decides what an operation says; one that passes leaves it to what comes after.
 -- Assumes nothing.
 use mathlib.Core.Path.{_≡_, refl, sym, ap, _∙_}
-use mathlib.Core.List.{List, [], _∷_}
+use mathlib.Core.List.{List, [], _∷_, _++_}
 use Prim.Native.Nat.{ℕ, _<_}
 use native.Mathlib.Omega.{arith}
 use lib.ListN.{getD}
 use Rattle.spec.specs.Refusals.{Said, refused, passed, fits, broken, filled, list, Check, judge}
-use Rattle.spec.proofs.Judge.{judge-refused}
+use Rattle.spec.proofs.Judge.{judge-append, judge-passed, judge-refused}
 use Rattle.accept.specs.declared.form.Refusal.{Refusal}
 use Rattle.accept.specs.declared.form.Refusal.the-variants.{Boxes, MakerLength, DepotLength, RecordCount, BadRecord, SheetByte, GivenLength, OutLength, ListByte}
 use Rattle.accept.specs.Form.{refusalSays}
@@ -27,6 +27,13 @@ pub refusal-said : (why : Refusal) (cs : List Check) (after : Said) → refusalS
 refusal-said why cs after e =
     let r = numbered why in
     r .2 ∙ sym (judge-refused cs after (sym e ∙ r .2))
+
+-- checks in a row: the first refuse; or they pass, and the others decide
+pub chain-refused : (why : Refusal) (cs ds : List Check) → refusalSays why ≡ judge cs passed → refusalSays why ≡ judge (cs ++ ds) passed
+chain-refused why cs ds e = refusal-said why cs (judge ds passed) e ∙ sym (judge-append cs ds passed)
+
+pub chain-passed : (cs ds : List Check) {said : Said} → passed ≡ judge cs passed → said ≡ judge ds passed → said ≡ judge (cs ++ ds) passed
+chain-passed cs ds first second = second ∙ sym (judge-passed cs (judge ds passed) (sym first)) ∙ sym (judge-append cs ds passed)
 
 -- the refusal that a number and a place stand for
 unfoldable pub refusalFor : Said → Refusal

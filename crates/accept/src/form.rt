@@ -6,7 +6,7 @@ ghost use lib.Dec.{ltb};
 ghost use mathlib.Core.List.{_∷_, []};
 ghost use Rattle.lemmas.specs.Lowest.{lowest};
 ghost use Rattle.spec.specs.Records.{recordAt, recordCount, bad};
-ghost use Rattle.spec.specs.Refusals.{passed, judge, tableChecks, sheetCheck, givenCheck, outCheck, listCheck};
+ghost use Rattle.spec.specs.Refusals.{passed, judge, tableChecks, sheetCheck, givenCheck, outCheck, listCheck, sheetChecks, orderChecks, nextChecks};
 ghost use Rattle.accept.specs.Record.{WholeRecords};
 ghost use Rattle.accept.specs.Form.{formSays};
 use crate::record::is_bad;
@@ -124,4 +124,65 @@ pub fn check_out(out: &[u8], n: usize) -> Form
         return Form::Refused(Refusal::OutLength);
     }
     Form::Passed
+}
+
+// 1, 2, 3, 4
+fn check_sheet_call<'a>(maker: &'a [u8], depot: &'a [u8], sheet: &[u8]) -> Form
+    ensures { λ r. ⌜ formSays r ≡ judge (sheetChecks (now (maker .entry)) (now (depot .entry)) (now (sheet .entry))) passed ⌝ }
+{
+    let tables = check_tables(maker, depot, sheet.len());
+    if let Form::Refused(why) = tables {
+        return Form::Refused(why);
+    }
+    check_sheet(sheet)
+}
+
+// Fill and First: 1, 2, 3, 4, 5 at place 1
+pub fn check_order<'a>(maker: &'a [u8], depot: &'a [u8], sheet: &[u8], out: &[u8]) -> Form
+    ensures { λ r. ⌜ formSays r ≡ judge (orderChecks (now (maker .entry)) (now (depot .entry)) (now (sheet .entry)) (now (out .entry))) passed ⌝ }
+{
+    let form = check_sheet_call(maker, depot, sheet);
+    if let Form::Refused(why) = form {
+        return Form::Refused(why);
+    }
+    check_out(out, sheet.len())
+}
+
+// 5 at place 1, 6
+fn check_out_and_list(given: &[u8], n: usize, out: &[u8]) -> Form
+    ensures { λ r. ⌜ formSays r ≡ judge (outCheck n (now (out .entry)) ∷ listCheck (now (given .entry)) ∷ []) passed ⌝ }
+{
+    let room = check_out(out, n);
+    if let Form::Refused(why) = room {
+        return Form::Refused(why);
+    }
+    check_list(given)
+}
+
+// 5 at places 0 and 1, 6
+fn check_lists(given: &[u8], n: usize, out: &[u8]) -> Form
+    ensures { λ r. ⌜ formSays r ≡ judge (givenCheck n (now (given .entry)) ∷ outCheck n (now (out .entry)) ∷ listCheck (now (given .entry)) ∷ []) passed ⌝ }
+{
+    let length = check_given(given, n);
+    if let Form::Refused(why) = length {
+        return Form::Refused(why);
+    }
+    check_out_and_list(given, n, out)
+}
+
+// Next: 1, 2, 3, 4, 5 at places 0 and 1, 6
+pub fn check_next<'a>(
+    maker: &'a [u8],
+    depot: &'a [u8],
+    sheet: &[u8],
+    given: &[u8],
+    out: &[u8],
+) -> Form
+    ensures { λ r. ⌜ formSays r ≡ judge (nextChecks (now (maker .entry)) (now (depot .entry)) (now (sheet .entry)) (now (given .entry)) (now (out .entry))) passed ⌝ }
+{
+    let form = check_sheet_call(maker, depot, sheet);
+    if let Form::Refused(why) = form {
+        return Form::Refused(why);
+    }
+    check_lists(given, sheet.len(), out)
 }

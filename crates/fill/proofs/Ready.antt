@@ -12,6 +12,7 @@ use Rattle.lemmas.proofs.Tests.{false-T, or-false-left, or-false-right}
 use Rattle.lemmas.proofs.Members.{any-member, any-of}
 use Rattle.spec.specs.Kinds.{kindOf}
 use Rattle.spec.specs.Records.{Rec, bad, boxesOf, noKind, lacksZ, twoEqual, recordAt}
+use Rattle.spec.proofs.Accepted.{Accepted}
 use Rattle.theory.specs.Steps.{Loaded}
 use Rattle.theory.proofs.Form.{form-passed}
 use Rattle.theory.proofs.Loading.{loaded-sheet}
@@ -41,14 +42,16 @@ bad-more n m q h e = ap reasons (fewer ∙ sym none) ∙ e
         let found = any-member (leb m) (boxesOf q) t in
         subst T none (any-of (leb n) (found .1) (le→leb n (found .0) (omega (arith, leb→le m (found .0) (found .2))))))
 
+pub good-accepted : {n : ℕ} {maker depot : List ℕ} → Accepted n maker depot → GoodTables maker depot
+good-accepted {n} {maker} {depot} tables =
+    record {
+      whole = record { makers = tables .makers; depots = tables .depots };
+      good = λ r l. bad-more n 256 (recordAt maker depot r) (tables .boxes) (tables .good r l);
+    }
+
 module _ (maker depot sheet out : List ℕ) (known : InForm maker depot sheet out) where
   pub good-tables : GoodTables maker depot
-  good-tables =
-      let form = form-passed maker depot sheet out (known .form) in
-      record {
-        whole = record { makers = form .tables .makers; depots = form .tables .depots };
-        good = λ r l. bad-more (length sheet) 256 (recordAt maker depot r) (form .tables .boxes) (form .tables .good r l);
-      }
+  good-tables = good-accepted (form-passed maker depot sheet out (known .form) .tables)
 
   pub good-cells : (cells : List ℕ) → Loaded sheet cells → Cells cells
   good-cells cells loaded =

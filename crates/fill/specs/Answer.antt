@@ -5,8 +5,8 @@ use mathlib.Core.List.{List}
 use Prim.Native.Nat.{ℕ}
 use Rattle.spec.specs.Records.{rulesIn}
 use Rattle.spec.specs.Facts as facts
-use Rattle.spec.specs.Refusals.{Said, refused, passed, filled, judge}
-use Rattle.spec.specs.Fill.{closureOf, fillForm, fillSays, fillWrites}
+use Rattle.spec.specs.Refusals.{Said, refused, passed, filled, judge, orderChecks}
+use Rattle.spec.specs.Fill.{closureOf, fillSays, fillWrites}
 use Rattle.accept.specs.Form.{refusalSays}
 use Rattle.fill.specs.declared.operation.Filled.{Filled}
 use Rattle.fill.specs.declared.operation.Filled.the-variants.{Boxes, Clash, Broken, Refused}
@@ -24,7 +24,7 @@ pub record FillDoes (maker depot sheet out : List ℕ) (answer : Filled) (left :
 
 -- the checks of form have passed
 pub record InForm (maker depot sheet out : List ℕ) : Type 0 where
-  pub form : judge (fillForm maker depot sheet out) passed ≡ passed
+  pub form : judge (orderChecks maker depot sheet out) passed ≡ passed
 
 -- the closure of the sheet, without a clash
 pub record IsFilled (maker depot sheet filled : List ℕ) : Type 0 where

@@ -4,8 +4,7 @@ ghost use Rattle.fill.specs.Answer.{InForm, IsFilled, FillDoes};
 use crate::engine::run;
 use accept::form::Form;
 use accept::form::Refusal;
-use accept::form::check_sheet;
-use accept::form::check_tables;
+use accept::form::check_order;
 use fits::first_broken;
 use sheet::count_filled;
 use sheet::count_open;
@@ -57,16 +56,9 @@ fn fill_accepted<'a>(maker: &'a [u8], depot: &'a [u8], sheet: &[u8], out: &mut [
 pub fn fill<'a>(maker: &'a [u8], depot: &'a [u8], sheet: &[u8], out: &mut [u8]) -> Filled
     ensures { λ r. ⌜ FillDoes (now (maker .entry)) (now (depot .entry)) (now (sheet .entry)) (now (out .entry)) r (now (out .exit)) ⌝ }
 {
-    let tables = check_tables(maker, depot, sheet.len());
-    if let Form::Refused(why) = tables {
+    let form = check_order(maker, depot, sheet, &out[..]);
+    if let Form::Refused(why) = form {
         return Filled::Refused(why);
-    }
-    let bytes = check_sheet(sheet);
-    if let Form::Refused(why) = bytes {
-        return Filled::Refused(why);
-    }
-    if out.len() != sheet.len() {
-        return Filled::Refused(Refusal::OutLength);
     }
     fill_accepted(maker, depot, sheet, out)
 }

@@ -10,13 +10,12 @@ use lib.ListN.{length}
 use Rattle.lemmas.specs.Ascends.{Ascends}
 use Rattle.lemmas.proofs.Ascending.{ascends-once}
 use Rattle.spec.specs.Records.{rulesIn}
-use Rattle.spec.specs.Refusals.{passed, judge}
+use Rattle.spec.specs.Refusals.{passed, judge, sheetChecks}
 use Rattle.spec.specs.Kits.{before, kits}
 use Rattle.kits.specs.Kit.{Kit}
 use Rattle.kits.specs.Runs.{Asked}
 use Rattle.kits.proofs.Order.{before-irrefl}
 use Rattle.kits.proofs.Kits.{kits-in-order}
-use Rattle.kits.proofs.Form.{sheetForm}
 use Rattle.kits.proofs.Runs.{asked-same, asked-kits}
 
 pub record EveryKitOnce (maker depot sheet : List ℕ) (lent : ℕ → List ℕ) : Type 0 where
@@ -31,7 +30,7 @@ pub record EveryKitOnce (maker depot sheet : List ℕ) (lent : ℕ → List ℕ)
   pub once : List·Nodup (kits maker depot sheet)
 
 -- tables and sheet pass the checks of form, and each out buffer has the sheet's length
-pub demand-three : (maker depot sheet : List ℕ) (lent : ℕ → List ℕ) → judge (sheetForm maker depot sheet) passed ≡ passed →
+pub demand-three : (maker depot sheet : List ℕ) (lent : ℕ → List ℕ) → judge (sheetChecks maker depot sheet) passed ≡ passed →
     ((i : ℕ) → length (lent i) ≡ length sheet) → EveryKitOnce maker depot sheet lent
 demand-three maker depot sheet lent passes long =
     record {

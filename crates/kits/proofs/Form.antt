@@ -12,14 +12,9 @@ use lib.ListN.{length, getD}
 use Rattle.lemmas.specs.Lowest.{lowest}
 use Rattle.lemmas.proofs.Lowest.{lowest-none}
 use Rattle.lemmas.proofs.Reading.{getD-default}
-use Rattle.spec.specs.Refusals.{Check, passed, judge, tableChecks, sheetCheck, givenCheck, outCheck, listCheck}
-use Rattle.spec.specs.Kits.{firstForm, nextForm}
+use Rattle.spec.specs.Refusals.{Check, passed, judge, tableChecks, sheetCheck, givenCheck, outCheck, listCheck, orderChecks, nextChecks, sheetChecks}
 use Rattle.spec.proofs.Judge.{judge-append, judge-passed}
 use Rattle.kits.specs.Kit.{IsFull}
-
--- the checks of the tables and the sheet: 1, 2, 3, 4
-abbrev pub sheetForm : List ℕ → List ℕ → List ℕ → List Check
-sheetForm maker depot sheet = tableChecks (length sheet) maker depot ++ sheetCheck sheet ∷ []
 
 list-passes : (n : ℕ) (l : List ℕ) → IsFull n l → listCheck l .when ≡ false
 unfolding listCheck
@@ -30,18 +25,18 @@ list-passes n l full =
     small : (b : ℕ) → b < length l → ltb 1 (getD l b 0) ≡ false
     small b i = le-ltb 1 (getD l b 0) (omega (arith, getD-default l b 0 2 i, full .bits b (omega (arith, full .boxes))))
 
-module _ (maker depot sheet : List ℕ) (passes : judge (sheetForm maker depot sheet) passed ≡ passed)
+module _ (maker depot sheet : List ℕ) (passes : judge (sheetChecks maker depot sheet) passed ≡ passed)
     (out : List ℕ) (same : length out ≡ length sheet) where
-  pub first-passes : judge (firstForm maker depot sheet out) passed ≡ passed
+  pub first-passes : judge (orderChecks maker depot sheet out) passed ≡ passed
   unfolding outCheck
   first-passes =
-      judge-append (sheetForm maker depot sheet) (outCheck (length sheet) out ∷ []) passed
-      ∙ judge-passed (sheetForm maker depot sheet) _ passes
+      judge-append (sheetChecks maker depot sheet) (outCheck (length sheet) out ∷ []) passed
+      ∙ judge-passed (sheetChecks maker depot sheet) _ passes
       ∙ rw (eq-eqb _ _ same)
 
-  pub next-passes : (given : List ℕ) → IsFull (length sheet) given → judge (nextForm maker depot sheet given out) passed ≡ passed
+  pub next-passes : (given : List ℕ) → IsFull (length sheet) given → judge (nextChecks maker depot sheet given out) passed ≡ passed
   unfolding outCheck givenCheck
   next-passes given full =
-      judge-append (sheetForm maker depot sheet) (givenCheck (length sheet) given ∷ outCheck (length sheet) out ∷ listCheck given ∷ []) passed
-      ∙ judge-passed (sheetForm maker depot sheet) _ passes
+      judge-append (sheetChecks maker depot sheet) (givenCheck (length sheet) given ∷ outCheck (length sheet) out ∷ listCheck given ∷ []) passed
+      ∙ judge-passed (sheetChecks maker depot sheet) _ passes
       ∙ rw (eq-eqb _ _ (full .boxes), eq-eqb _ _ same, list-passes (length sheet) given full)

@@ -8,14 +8,14 @@ use lib.ListN.{length}
 use Rattle.lemmas.specs.Lists.{those}
 use Rattle.lemmas.specs.Ascends.{Ascends}
 use Rattle.lemmas.proofs.Ascending.{ascends-after}
-use Rattle.spec.specs.Refusals.{refused, passed, list, judge}
+use Rattle.spec.specs.Refusals.{refused, passed, list, judge, sheetChecks}
 use Rattle.spec.specs.Kits.{before, kits, kitsAfter}
 use Rattle.kits.specs.Kit.{IsFull}
 use Rattle.kits.specs.Runs.{Nexts, done, handed, Asked, none, first}
 use Rattle.kits.proofs.Order.{before-irrefl, before-asym}
 use Rattle.kits.proofs.Kits.{kits-in-order}
 use Rattle.kits.proofs.Says.{first-head, first-empty, next-head, next-empty}
-use Rattle.kits.proofs.Form.{sheetForm, first-passes, next-passes}
+use Rattle.kits.proofs.Form.{first-passes, next-passes}
 
 nine-list : refused 9 0 ≡ list → ⊥
 nine-list e = let z : _≡_ {A = ℕ} 0 1 = cc in omega arith
@@ -41,7 +41,7 @@ module _ {maker depot sheet : List ℕ} {lent : ℕ → List ℕ} where
 
 -- tables and sheet pass the checks, and every buffer lent has the sheet's length
 module _ (maker depot sheet : List ℕ) (lent : ℕ → List ℕ)
-    (passes : judge (sheetForm maker depot sheet) passed ≡ passed) (long : (i : ℕ) → length (lent i) ≡ length sheet) where
+    (passes : judge (sheetChecks maker depot sheet) passed ≡ passed) (long : (i : ℕ) → length (lent i) ≡ length sheet) where
   -- after a list of the kits come those behind it
   rest-after : (front : List (List ℕ)) (l : List ℕ) (rest : List (List ℕ)) → kits maker depot sheet ≡ front ++ l ∷ rest →
       kitsAfter maker depot sheet l ≡ rest

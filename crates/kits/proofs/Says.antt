@@ -5,9 +5,9 @@ use mathlib.Core.Path.{_≡_, ap, _∙_}
 use mathlib.Core.Bool.{true, false}
 use mathlib.Core.List.{List, [], _∷_}
 use Prim.Native.Nat.{ℕ}
-use Rattle.spec.specs.Refusals.{Said, refused, passed, list, Check, judge}
+use Rattle.spec.specs.Refusals.{Said, refused, passed, list, Check, judge, orderChecks, nextChecks}
 use Rattle.spec.specs.Fill.{written}
-use Rattle.spec.specs.Kits.{isNone, headOf, noneCheck, kits, kitsAfter, firstForm, firstSays, firstWrites, nextForm, nextSays, nextWrites}
+use Rattle.spec.specs.Kits.{isNone, headOf, noneCheck, kits, kitsAfter, firstSays, firstWrites, nextSays, nextWrites}
 use Rattle.spec.proofs.Judge.{judge-passed, judge-refused}
 use Rattle.kits.specs.Order.{AnswerTo}
 use Rattle.kits.specs.Kit.{FirstAsks, NextAsks}
@@ -45,15 +45,15 @@ module _ (maker depot sheet out : List ℕ) where
   abbrev pub FirstIs : Said → List ℕ → Type 0
   FirstIs said wrote = (firstSays maker depot sheet out ≡ said) × (firstWrites maker depot sheet out ≡ wrote)
 
-  module _ (passes : judge (firstForm maker depot sheet out) passed ≡ passed) where
+  module _ (passes : judge (orderChecks maker depot sheet out) passed ≡ passed) where
     -- by the kits
     pub first-head : (l : List ℕ) (rest : List (List ℕ)) → kits maker depot sheet ≡ l ∷ rest → FirstIs list l
     unfolding firstSays firstWrites
-    first-head = says-list (firstForm maker depot sheet out) (kits maker depot sheet) out passes
+    first-head = says-list (orderChecks maker depot sheet out) (kits maker depot sheet) out passes
 
     pub first-empty : kits maker depot sheet ≡ [] → FirstIs (refused 9 0) out
     unfolding firstSays firstWrites
-    first-empty = says-none (firstForm maker depot sheet out) (kits maker depot sheet) out passes
+    first-empty = says-none (orderChecks maker depot sheet out) (kits maker depot sheet) out passes
 
     -- by the answer to its question
     pub first-found : (l : List ℕ) → AnswerTo (FirstAsks maker depot sheet) true l → FirstIs list l
@@ -64,24 +64,24 @@ module _ (maker depot sheet out : List ℕ) where
     pub first-none : (x : List ℕ) → AnswerTo (FirstAsks maker depot sheet) false x → FirstIs (refused 9 0) out
     first-none x h = first-empty (answer-none (kits maker depot sheet) x (kits-in-order maker depot sheet) h)
 
-  pub first-refused : {number place : ℕ} → judge (firstForm maker depot sheet out) passed ≡ refused number place →
+  pub first-refused : {number place : ℕ} → judge (orderChecks maker depot sheet out) passed ≡ refused number place →
       FirstIs (refused number place) out
   unfolding firstSays firstWrites
-  first-refused = says-refused (firstForm maker depot sheet out) (kits maker depot sheet) out
+  first-refused = says-refused (orderChecks maker depot sheet out) (kits maker depot sheet) out
 
 -- Next
 module _ (maker depot sheet given out : List ℕ) where
   abbrev pub NextIs : Said → List ℕ → Type 0
   NextIs said wrote = (nextSays maker depot sheet given out ≡ said) × (nextWrites maker depot sheet given out ≡ wrote)
 
-  module _ (passes : judge (nextForm maker depot sheet given out) passed ≡ passed) where
+  module _ (passes : judge (nextChecks maker depot sheet given out) passed ≡ passed) where
     pub next-head : (l : List ℕ) (rest : List (List ℕ)) → kitsAfter maker depot sheet given ≡ l ∷ rest → NextIs list l
     unfolding nextSays nextWrites
-    next-head = says-list (nextForm maker depot sheet given out) (kitsAfter maker depot sheet given) out passes
+    next-head = says-list (nextChecks maker depot sheet given out) (kitsAfter maker depot sheet given) out passes
 
     pub next-empty : kitsAfter maker depot sheet given ≡ [] → NextIs (refused 9 0) out
     unfolding nextSays nextWrites
-    next-empty = says-none (nextForm maker depot sheet given out) (kitsAfter maker depot sheet given) out passes
+    next-empty = says-none (nextChecks maker depot sheet given out) (kitsAfter maker depot sheet given) out passes
 
     pub next-found : (l : List ℕ) → AnswerTo (NextAsks maker depot sheet given) true l → NextIs list l
     next-found l h =
@@ -91,7 +91,7 @@ module _ (maker depot sheet given out : List ℕ) where
     pub next-none : (x : List ℕ) → AnswerTo (NextAsks maker depot sheet given) false x → NextIs (refused 9 0) out
     next-none x h = next-empty (answer-none (kitsAfter maker depot sheet given) x (after-in-order maker depot sheet given) h)
 
-  pub next-refused : {number place : ℕ} → judge (nextForm maker depot sheet given out) passed ≡ refused number place →
+  pub next-refused : {number place : ℕ} → judge (nextChecks maker depot sheet given out) passed ≡ refused number place →
       NextIs (refused number place) out
   unfolding nextSays nextWrites
-  next-refused = says-refused (nextForm maker depot sheet given out) (kitsAfter maker depot sheet given) out
+  next-refused = says-refused (nextChecks maker depot sheet given out) (kitsAfter maker depot sheet given) out

@@ -9,7 +9,7 @@ use Rattle.lemmas.specs.Lists.{any, count, upto}
 use Rattle.spec.specs.Records.{recordCount, rulesIn}
 use Rattle.spec.specs.Facts.{holds}
 use Rattle.spec.specs.Rounds.{closed}
-use Rattle.spec.specs.Refusals.{Said, refused, passed, fits, broken, filled, list, Check, judge, tableChecks, sheetCheck, outCheck}
+use Rattle.spec.specs.Refusals.{Said, refused, passed, fits, broken, filled, list, Check, judge, orderChecks}
 use Rattle.spec.specs.Fits.{firstBroken}
 
 -- the closure of the sheet's facts, as codes
@@ -40,14 +40,9 @@ brokenCheck maker depot c =
       place = firstBroken maker depot c;
     }
 
--- 1, 2, 3, 4, 5 at place 1
-abbrev pub fillForm : List ℕ → List ℕ → List ℕ → List ℕ → List Check
-fillForm maker depot sheet out =
-    tableChecks (length sheet) maker depot ++ sheetCheck sheet ∷ outCheck (length sheet) out ∷ []
-
 unfoldable pub fillSays : List ℕ → List ℕ → List ℕ → List ℕ → Said
 fillSays maker depot sheet out =
-    judge (fillForm maker depot sheet out)
+    judge (orderChecks maker depot sheet out)
     (judge (clashCheck (closureOf maker depot sheet) ∷ brokenCheck maker depot (closureOf maker depot sheet) ∷ [])
     (filled (boxesFilled sheet (closureOf maker depot sheet))))
 

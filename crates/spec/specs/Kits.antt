@@ -7,7 +7,7 @@ use lib.Dec.{ltb, eqb}
 use lib.ListN.{length, getD}
 use Rattle.lemmas.specs.Lists.{all, any, those, upto}
 use Rattle.spec.specs.Records.{rulesIn}
-use Rattle.spec.specs.Refusals.{Said, list, Check, judge, tableChecks, sheetCheck, givenCheck, outCheck, listCheck}
+use Rattle.spec.specs.Refusals.{Said, list, Check, judge, orderChecks, nextChecks}
 use Rattle.spec.specs.Fits.{breaks}
 use Rattle.spec.specs.Fill.{written}
 
@@ -52,31 +52,16 @@ headOf (l ∷ ls) = l
 unfoldable pub noneCheck : List (List ℕ) → Check
 noneCheck ls = record { number = 9; when = isNone ls; place = 0 }
 
--- 1, 2, 3, 4, 5 at place 1
-abbrev pub firstForm : List ℕ → List ℕ → List ℕ → List ℕ → List Check
-firstForm maker depot sheet out =
-    tableChecks (length sheet) maker depot ++ sheetCheck sheet ∷ outCheck (length sheet) out ∷ []
-
 unfoldable pub firstSays : List ℕ → List ℕ → List ℕ → List ℕ → Said
 firstSays maker depot sheet out =
-    judge (firstForm maker depot sheet out) (judge (noneCheck (kits maker depot sheet) ∷ []) list)
+    judge (orderChecks maker depot sheet out) (judge (noneCheck (kits maker depot sheet) ∷ []) list)
 
 unfoldable pub firstWrites : List ℕ → List ℕ → List ℕ → List ℕ → List ℕ
 firstWrites maker depot sheet out = written (firstSays maker depot sheet out) (headOf (kits maker depot sheet)) out
 
--- 1, 2, 3, 4, 5 at places 0 and 1, 6
-abbrev pub nextForm : List ℕ → List ℕ → List ℕ → List ℕ → List ℕ → List Check
-nextForm maker depot sheet given out =
-    tableChecks (length sheet) maker depot
-    ++ sheetCheck sheet
-    ∷ givenCheck (length sheet) given
-    ∷ outCheck (length sheet) out
-    ∷ listCheck given
-    ∷ []
-
 unfoldable pub nextSays : List ℕ → List ℕ → List ℕ → List ℕ → List ℕ → Said
 nextSays maker depot sheet given out =
-    judge (nextForm maker depot sheet given out) (judge (noneCheck (kitsAfter maker depot sheet given) ∷ []) list)
+    judge (nextChecks maker depot sheet given out) (judge (noneCheck (kitsAfter maker depot sheet given) ∷ []) list)
 
 unfoldable pub nextWrites : List ℕ → List ℕ → List ℕ → List ℕ → List ℕ → List ℕ
 nextWrites maker depot sheet given out =

@@ -69,3 +69,20 @@ listCheck l = lowestOf 6 (λ b. ltb 1 (getD l b 0)) (length l)
 abbrev pub tableChecks : ℕ → List ℕ → List ℕ → List Check
 tableChecks n maker depot =
     boxesCheck n ∷ makerCheck maker ∷ depotCheck depot ∷ countCheck maker depot ∷ recordCheck n maker depot ∷ []
+
+-- with a sheet: 1, 2, 3, 4
+abbrev pub sheetChecks : List ℕ → List ℕ → List ℕ → List Check
+sheetChecks maker depot sheet = tableChecks (length sheet) maker depot ++ sheetCheck sheet ∷ []
+
+-- Fill and First: 1, 2, 3, 4, 5 at place 1
+abbrev pub orderChecks : List ℕ → List ℕ → List ℕ → List ℕ → List Check
+orderChecks maker depot sheet out = sheetChecks maker depot sheet ++ outCheck (length sheet) out ∷ []
+
+-- Next: 1, 2, 3, 4, 5 at places 0 and 1, 6
+abbrev pub nextChecks : List ℕ → List ℕ → List ℕ → List ℕ → List ℕ → List Check
+nextChecks maker depot sheet given out =
+    sheetChecks maker depot sheet
+    ++ givenCheck (length sheet) given
+    ∷ outCheck (length sheet) out
+    ∷ listCheck given
+    ∷ []

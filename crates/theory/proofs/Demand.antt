@@ -10,9 +10,9 @@ use lib.Dec.{T}
 use lib.ListN.{length, getD}
 use Rattle.spec.specs.Records.{recordCount, rulesIn}
 use Rattle.spec.specs.Facts.{Facts, Closure, Clash, holds}
-use Rattle.spec.specs.Refusals.{refused, passed, filled, judge}
+use Rattle.spec.specs.Refusals.{refused, passed, filled, judge, orderChecks}
 use Rattle.spec.specs.Fits.{firstBroken}
-use Rattle.spec.specs.Fill.{closureOf, boxesFilled, openCount, fillForm, fillSays, fillWrites}
+use Rattle.spec.specs.Fill.{closureOf, boxesFilled, openCount, fillSays, fillWrites}
 use Rattle.theory.specs.Steps.{IsSheet, Grown}
 use Rattle.theory.proofs.States.{stateOf, sheet-codes, holds-state, state-holds, open-none, none-open}
 use Rattle.theory.proofs.Growth.{closed-grown}
@@ -45,7 +45,7 @@ pub record Demand (maker depot sheet out : List ℕ) : Type 0 where
   -- and the number is that of the boxes that were 2 and are not now
   pub counts : (k : ℕ) → fillSays maker depot sheet out ≡ filled k → k ≡ boxesFilled sheet (fillWrites maker depot sheet out)
 
-module _ (maker depot sheet out : List ℕ) (form : judge (fillForm maker depot sheet out) passed ≡ passed) where
+module _ (maker depot sheet out : List ℕ) (form : judge (orderChecks maker depot sheet out) passed ≡ passed) where
   -- without a clash the closure's codes are the filled sheet
   codes-filled : ((b : ℕ) → Clash (rulesIn maker depot) sheet b → ⊥) → IsFilled maker depot sheet (closureOf maker depot sheet)
   unfolding closureOf

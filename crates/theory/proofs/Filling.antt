@@ -14,9 +14,9 @@ use Rattle.lemmas.proofs.Tests.{T-true, true-T, false-T, both-left, both-right,
 use Rattle.lemmas.proofs.Members.{any-member, any-of, upto-member}
 use Rattle.spec.specs.Records.{recordCount, rulesIn}
 use Rattle.spec.specs.Facts.{Closure, Clash, holds}
-use Rattle.spec.specs.Refusals.{Said, refused, passed, filled, judge}
+use Rattle.spec.specs.Refusals.{Said, refused, passed, filled, judge, orderChecks}
 use Rattle.spec.specs.Fits.{firstBroken}
-use Rattle.spec.specs.Fill.{closureOf, clashes, boxesFilled, openCount, clashCheck, brokenCheck, fillForm, fillSays, written, fillWrites}
+use Rattle.spec.specs.Fill.{closureOf, clashes, boxesFilled, openCount, clashCheck, brokenCheck, fillSays, written, fillWrites}
 use Rattle.spec.proofs.Judge.{judge-passed, judge-refused}
 use Rattle.spec.proofs.Named.{within-good}
 use Rattle.spec.proofs.Codes.{holds-below}
@@ -67,17 +67,17 @@ module _ (maker depot sheet : List ℕ) where
     fill-said said e = record { says = e; writes = ap (λ (a : Said). written a codes out) e }
 
     -- the form is refused
-    pub fill-refused : {number place : ℕ} → judge (fillForm maker depot sheet out) passed ≡ refused number place →
+    pub fill-refused : {number place : ℕ} → judge (orderChecks maker depot sheet out) passed ≡ refused number place →
         Fills maker depot sheet out (refused number place) out
     unfolding fillSays
-    fill-refused {number} {place} e = fill-said (refused number place) (judge-refused (fillForm maker depot sheet out) _ e)
+    fill-refused {number} {place} e = fill-said (refused number place) (judge-refused (orderChecks maker depot sheet out) _ e)
 
-    module _ (form : judge (fillForm maker depot sheet out) passed ≡ passed) where
+    module _ (form : judge (orderChecks maker depot sheet out) passed ≡ passed) where
       -- 7 and 8 decide
       pub fill-decided : fillSays maker depot sheet out ≡
           judge (clashCheck codes ∷ brokenCheck maker depot codes ∷ []) (filled (boxesFilled sheet codes))
       unfolding fillSays
-      fill-decided = judge-passed (fillForm maker depot sheet out) _ form
+      fill-decided = judge-passed (orderChecks maker depot sheet out) _ form
 
       -- the codes hold exactly the closure's facts
       pub codes-exact : (b : ℕ) (state : Bool) → T (holds codes b state) ↔ Closure (rulesIn maker depot) sheet b state

@@ -8,8 +8,7 @@ use native.Mathlib.Omega.{arith}
 use borrow.Author.Tests.{eqb-true, not-false}
 use lib.ListN.{length}
 use Rattle.lemmas.proofs.Reading.{getD-each}
-use Rattle.spec.specs.Refusals.{Said, refused, passed, Check, judge, tableChecks, sheetCheck, outCheck}
-use Rattle.spec.specs.Fill.{fillForm}
+use Rattle.spec.specs.Refusals.{Said, refused, passed, Check, judge, tableChecks, sheetCheck, outCheck, orderChecks}
 use Rattle.spec.proofs.Judge.{judge-append, judge-passes, judge-passed, judge-refused, refused-passed}
 use Rattle.spec.proofs.Accepted.{Accepted, tables-accepted, sheet-accepted}
 use Rattle.theory.specs.Steps.{IsSheet}
@@ -40,7 +39,7 @@ pub record InForm (maker depot sheet out : List ℕ) : Type 0 where
   pub sheet-bytes : IsSheet sheet
   pub room : length out ≡ length sheet
 
-pub form-passed : (maker depot sheet out : List ℕ) → judge (fillForm maker depot sheet out) passed ≡ passed → InForm maker depot sheet out
+pub form-passed : (maker depot sheet out : List ℕ) → judge (orderChecks maker depot sheet out) passed ≡ passed → InForm maker depot sheet out
 unfolding outCheck
 form-passed maker depot sheet out e =
     record {

@@ -4,9 +4,11 @@ use mathlib.Core.Path.{_≡_, sym, subst⁻¹, _∙_}
 use mathlib.Core.Bool.{Bool, true}
 use mathlib.Core.List.{List, [], _∷_}
 use Prim.Native.Nat.{ℕ, _≤_, _<_}
+use native.Mathlib.Omega.{arith}
 use native.Mathlib.Decide.{ℕ-discrete}
 use lib.Dec.{T, eqb, eqb→eq}
-use lib.ListN.{length, getD}
+use lib.ListN.{length, getD, set, length-set}
+use lib.Seq.{getD-set-same, getD-set-other}
 use Rattle.lemmas.specs.Lists.{count, upto}
 use Rattle.lemmas.proofs.Reading.{getD-within}
 use Rattle.lemmas.proofs.Members.{upto-member}
@@ -65,6 +67,18 @@ module _ {qs : List Rec} {s t : List ℕ} (grown : Grown qs s t) (sheet : IsShee
       at : Dec (getD s b 2 ≡ 2) → openCount t < openCount s
       at (yes e) = open-less b e (λ now′. differ (now′ ∙ sym e))
       at (no e) = absurd (differ (grown-kept b e))
+
+-- one more box settled
+pub open-set : (t : List ℕ) (b v : ℕ) → b < length t → getD t b 2 ≡ 2 → v ≤ 1 → openCount (set t b v) < openCount t
+open-set t b v below was small =
+    rw (open-indexed (set t b v), open-indexed t, length-set t b v)
+    (count-less (isOpen (set t b v)) (isOpen t) (λ c m. still c (ℕ-discrete c b)) (upto-member below)
+    (λ h. omega (arith, eqb→eq 2 (getD (set t b v) b 2) h, getD-set-same t b v 2 below))
+    (eq-open (getD t b 2) was))
+  where
+    still : (c : ℕ) → Dec (c ≡ b) → T (isOpen (set t b v) c) → T (isOpen t c)
+    still c (yes e) h = eq-open (getD t c 2) (rw e was)
+    still c (no e) h = rw (getD-set-other t b c v 2 e) at h
 
 module _ {qs : List Rec} {n : ℕ} {q : Rec} {s : List ℕ} {x′ y′ z′ : ℕ} (turn : Turn qs n q s x′ y′ z′) where
   -- a new state that is not the old one is that of a named box

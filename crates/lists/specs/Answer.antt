@@ -1,0 +1,41 @@
+-- The paper's number and values for every case of First's and Next's answer, and their promises.
+-- Assumes nothing.
+use mathlib.Core.Path.{_≡_}
+use mathlib.Core.Bool.{Bool, true, false}
+use mathlib.Core.List.{List}
+use lib.ListN.{length}
+use Prim.Native.Nat.{ℕ}
+use Rattle.spec.specs.Refusals.{Said, refused, passed, list, judge, sheetChecks}
+use Rattle.spec.specs.Records.{rulesIn}
+use Rattle.spec.specs.Kits.{firstSays, firstWrites, nextSays, nextWrites}
+use Rattle.kits.specs.Order.{AnswerTo}
+use Rattle.kits.specs.Kit.{Wanted}
+use Rattle.accept.specs.Form.{refusalSays}
+use Rattle.lists.specs.declared.operation.Listed.{Listed}
+use Rattle.lists.specs.declared.operation.Listed.the-variants as listed
+
+abbrev pub listedSays : Listed → Said
+listedSays listed.List = list
+listedSays listed.None = refused 9 0
+listedSays (listed.Refused why) = refusalSays why
+
+-- First's promise: the answer, and every byte of the out buffer
+pub record FirstDoes (maker depot sheet out : List ℕ) (answer : Listed) (left : List ℕ) : Type 0 where
+  pub says : listedSays answer ≡ firstSays maker depot sheet out
+  pub writes : left ≡ firstWrites maker depot sheet out
+
+-- and Next's
+pub record NextDoes (maker depot sheet given out : List ℕ) (answer : Listed) (left : List ℕ) : Type 0 where
+  pub says : listedSays answer ≡ nextSays maker depot sheet given out
+  pub writes : left ≡ nextWrites maker depot sheet given out
+
+-- tables and sheet have passed, and the lists have their lengths
+pub record InCall (maker depot sheet given : List ℕ) (after : Bool) (out : List ℕ) : Type 0 where
+  pub form : judge (sheetChecks maker depot sheet) passed ≡ passed
+  pub room : length out ≡ length sheet
+  pub size : after ≡ true → length given ≡ length sheet
+
+-- the kit that was asked for is in the buffer, or there is none and the buffer is as it was
+pub record Chosen (maker depot sheet given : List ℕ) (after : Bool) (out : List ℕ) (found : Bool) (left : List ℕ) : Type 0 where
+  pub answer : AnswerTo (Wanted (rulesIn maker depot) (length sheet) sheet after given) found left
+  pub kept : found ≡ false → left ≡ out
