@@ -3,3 +3,6 @@ pub use accept::form::Refusal;
 pub use fits::Tested;
 pub use fits::show;
 pub use fits::test;
+pub use lists::operation::Listed;
+pub use lists::operation::first;
+pub use lists::operation::next;

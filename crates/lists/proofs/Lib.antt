@@ -1,2 +1,3 @@
 pub mod Turn
 pub mod Calls
+pub mod Unique

@@ -28,8 +28,9 @@ shared-slice-read-if1-2 c = omega (arith, c .before .before .before .before .pre
 
 returns : tie.Need-returns Inv-loop μ-loop
 returns c =
+    let start = c .before .before .before .before .before in
     let l = c .before .before .before .before .loop in
-    (refl, (l .c, omega arith, record { same = l .inv .1; less = omega (arith, c .if1 .taken, getD-default (c .before .before .before .before .before .args .states .now) (l .c) 0 2 (omega (arith, c .before .before .before .before .before .pre .0)), getD-default (c .before .before .before .before .before .args .given .now) (l .c) 0 2 (omega (arith, c .before .before .before .before .before .pre .1))) }))
+    (refl, (l .c, omega arith, record { same = l .inv .1; less = omega (arith, c .if1 .taken, getD-default (start .args .states .now) (l .c) 0 2 (omega (arith, start .pre .0)), getD-default (start .args .given .now) (l .c) 0 2 (omega (arith, start .pre .1))) }))
 
 shared-slice-read-if2 : tie.Need-shared-slice-read-if2 Inv-loop μ-loop
 shared-slice-read-if2 c = omega (arith, c .before .before .before .before .before .before .pre .1)
@@ -39,8 +40,9 @@ shared-slice-read-if2-2 c = omega (arith, c .before .before .before .before .bef
 
 returns-2 : tie.Need-returns-2 Inv-loop μ-loop
 returns-2 c =
+    let start = c .before .before .before .before .before .before .before .before in
     let l = c .before .before .before .before .before .before .before .loop in
-    inr (l .c, omega arith, record { same = λ i h. sym (l .inv .1 i h); less = omega (arith, c .if2 .taken, getD-default (c .before .before .before .before .before .before .before .before .args .states .now) (l .c) 0 2 (omega (arith, c .before .before .before .before .before .before .before .before .pre .0)), getD-default (c .before .before .before .before .before .before .before .before .args .given .now) (l .c) 0 2 (omega (arith, c .before .before .before .before .before .before .before .before .pre .1))) })
+    inr (l .c, omega arith, record { same = λ i h. sym (l .inv .1 i h); less = omega (arith, c .if2 .taken, getD-default (start .args .states .now) (l .c) 0 2 (omega (arith, start .pre .0)), getD-default (start .args .given .now) (l .c) 0 2 (omega (arith, start .pre .1))) })
 
 add-c : tie.Need-add-c Inv-loop μ-loop
 add-c c = search needs
@@ -50,9 +52,10 @@ loop-less c = search needs
 
 loop-again : tie.Need-loop-again Inv-loop μ-loop
 loop-again c =
+    let start = c .before .before .before .before .before .before .before .before in
     let l = c .before .before .before .before .before .before .before .loop in (
       search needs,
-      below-more _ _ (l .inv .1) (omega (arith, c .if2 .left, c .before .before .before .if1 .left, getD-default (c .before .before .before .before .before .before .before .before .args .states .now) (l .c) 0 2 (omega (arith, c .before .before .before .before .before .before .before .before .pre .0)), getD-default (c .before .before .before .before .before .before .before .before .args .given .now) (l .c) 0 2 (omega (arith, c .before .before .before .before .before .before .before .before .pre .1)))),
+      below-more _ _ (l .inv .1) (omega (arith, c .if2 .left, c .before .before .before .if1 .left, getD-default (start .args .states .now) (l .c) 0 2 (omega (arith, start .pre .0)), getD-default (start .args .given .now) (l .c) 0 2 (omega (arith, start .pre .1)))),
     )
 
 returns-3 : tie.Need-returns-3 Inv-loop μ-loop

@@ -24,11 +24,12 @@ shared-slice-read-if1 c = omega (arith, c .before .before .before .pre)
 
 returns : tie.Need-returns Inv-loop μ-loop
 returns c =
+    let start = c .before .before .before .before in
     let l = c .before .before .before .loop in
     record {
       within = l .inv .0;
       settled = l .inv .1;
-      opened = λ h. getD-default (c .before .before .before .before .args .states .now) (l .b) 2 0 (omega (arith, c .before .before .before .before .pre)) ∙ c .if1 .taken;
+      opened = λ h. getD-default (start .args .states .now) (l .b) 2 0 (omega (arith, start .pre)) ∙ c .if1 .taken;
     }
 
 add-b : tie.Need-add-b Inv-loop μ-loop
@@ -39,9 +40,10 @@ loop-less c = search needs
 
 loop-again : tie.Need-loop-again Inv-loop μ-loop
 loop-again c =
+    let start = c .before .before .before .before in
     let l = c .before .before .before .loop in (
       search needs,
-      below-more _ _ (l .inv .1) (λ e. c .if1 .left (getD-default (c .before .before .before .before .args .states .now) (l .b) 0 2 (omega (arith, c .before .before .before .before .pre)) ∙ e)),
+      below-more _ _ (l .inv .1) (λ e. c .if1 .left (getD-default (start .args .states .now) (l .b) 0 2 (omega (arith, start .pre)) ∙ e)),
     )
 
 returns-2 : tie.Need-returns-2 Inv-loop μ-loop

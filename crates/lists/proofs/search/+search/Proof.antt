@@ -1,10 +1,10 @@
 -- `lists::search::search` meets its contract: a turn's answer comes from its branches', and each has fewer open boxes.
 -- Assumes nothing.
 use borrow.Author.Needs.{needs}
-use mathlib.Core.Path.{_≡_, sym, ap, subst, _∙_}
+use mathlib.Core.Path.{_≡_, sym, subst, _∙_}
 use mathlib.Core.Bool.{Bool, true, false}
 use mathlib.Core.List.{List, []}
-use Prim.Native.Nat.{ℕ, _<_}
+use Prim.Native.Nat.{ℕ, _≤_, _<_}
 use native.Mathlib.Omega.{arith}
 use lib.ListN.{length, take, set}
 use Rattle.spec.specs.Records.{rulesIn}
@@ -13,8 +13,8 @@ use Rattle.fill.specs.Moves.{Rested}
 use Rattle.fill.proofs.Ready.{good-accepted}
 use Rattle.kits.specs.Order.{Question, AnswerTo}
 use Rattle.kits.specs.Kit.{Wanted}
-use Rattle.lists.specs.Look.{levelOf}
-use Rattle.lists.proofs.Turn.{ahead-of, turn-clash, turn-before, turn-full, branch-ready, branch-falls, turn-out, turn-in}
+use Rattle.lists.specs.Ready.{Ready}
+use Rattle.lists.proofs.Turn.{Looked, ahead-of, turn-clash, turn-before, turn-full, branch-ready, branch-falls, turn-out, turn-in}
 use borrow.Fn.Kinds.{In}
 use borrow.Fn.PlainCycle.{Measures, is, falls, and}
 use Rattle.lists.proofs.search.search.Reads as search′
@@ -65,6 +65,12 @@ rested t c =
 rest-room : (t : ℕ) (c : search-lts.Else1 (claims t) (search-at t) search′.Post) → length (c .before .run .last .1 .1 .0) ≡ 256
 rest-room t c = rested t c .0 .size ∙ c .before .before .before .before .before .before .before .pre .1 .cells .size
 
+-- what the turn looked at
+looked : (t : ℕ) (c : search-lts.After-stand-to (claims t) (search-at t) search′.Post) →
+    Looked (c .before .before .before .before .before .before .before .before .before .before .before .args .maker .now) (c .before .before .before .before .before .before .before .before .before .before .before .args .depot .now) (c .before .before .before .before .before .before .before .before .before .before .before .args .n) (c .before .before .before .before .before .before .before .before .before .before .before .args .sheet .states) (c .before .before .before .before .before .before .before .before .before .before .before .args .given .now) (c .before .before .before .before .before .before .before .before .before .before .before .args .after)
+    (c .before .before .before .before .before .run .last .1 .1 .0) (c .before .before .lowest-open .result) (c .stand-to .result)
+looked t c = record { rest = rested t (c .before .before .before .before); low = c .before .before .lowest-open .ensures; stands = c .stand-to .ensures }
+
 -- an answer that is found, and one that is not
 with-found : (P : Question) (found found′ : Bool) (l : List ℕ) → found ≡ found′ → AnswerTo P found l → AnswerTo P found′ l
 with-found P found found′ l e a = subst (λ (f : Bool). AnswerTo P f l) e a
@@ -77,7 +83,7 @@ search-run-requires t c κs =
 search-returns : (t : ℕ) → search-lts.Need-returns (claims t) (search-at t) search′.Post
 search-returns t c =
     let start = c .before .before .before .before .before .before .before in
-    turn-clash (start .args .maker .now) (start .args .depot .now) (start .args .n) (start .args .sheet .states) (start .args .given .now) (start .args .after) (start .pre .1)
+    turn-clash (start .pre .1)
     (subst (λ (r : Bool). Rested (rulesIn (start .args .maker .now) (start .args .depot .now)) (start .args .sheet .states) (c .before .run .last .1 .1 .0) r) (c .if1 .taken) (c .before .run .ensures))
     []
 
@@ -107,8 +113,8 @@ search-enum-told t c = search needs
 search-returns-2 : (t : ℕ) → search-lts.Need-returns-2 (claims t) (search-at t) search′.Post
 search-returns-2 t c =
     let start = c .before .before .before .before .before .before .before .before .before .before .before .before .before in
-    turn-before (start .args .maker .now) (start .args .depot .now) (start .args .n) (start .args .sheet .states) (start .args .given .now) (start .args .after) (start .pre .1)
-    (c .before .before .before .before .before .before .before .run .last .1 .1 .0) (rested t (c .before .before .before .before .before .before)) (c .before .before .before .before .lowest-open .result) (c .before .before .before .before .lowest-open .ensures) (c .before .before .stand-to .result) (c .before .before .stand-to .ensures)
+    turn-before (start .pre .1)
+    (looked t (c .before .before))
     (c .enum-told .given .1) []
 
 search-is-level-requires : (t : ℕ) → search-lts.Need-is-level-requires (claims t) (search-at t) search′.Post
@@ -118,39 +124,40 @@ search-returns-3 : (t : ℕ) → search-lts.Need-returns-3 (claims t) (search-at
 search-returns-3 t c =
     let start = c .before .before .before .before .before .before .before .before .before .before .before .before .before .before in
     rw (c .before .is-level .ensures)
-    (turn-full (start .args .maker .now) (start .args .depot .now) (start .args .n) (start .args .sheet .states) (start .args .given .now) (start .args .after) (start .pre .1)
-    (c .before .before .before .before .before .before .before .before .run .last .1 .1 .0) (rested t (c .before .before .before .before .before .before .before)) (c .before .before .before .before .before .lowest-open .result) (c .before .before .before .before .before .lowest-open .ensures) (c .before .before .before .stand-to .result) (c .before .before .before .stand-to .ensures)
+    (turn-full (start .pre .1)
+    (looked t (c .before .before .before))
     (ahead-of _ (c .before .before .match .keys2)) (c .if2 .taken))
+
+-- box b is one of the n, and open
+box-open : (t : ℕ) (c : search-lts.Else2 (claims t) (search-at t) search′.Post) → c .before .before .before .before .before .lowest-open .result < c .before .before .before .before .before .before .before .before .before .before .before .before .before .before .args .n
+box-open t c = omega (arith, c .before .before .before .before .before .lowest-open .ensures .within, c .if2 .left)
 
 search-settled-requires : (t : ℕ) → search-lts.Need-settled-requires (claims t) (search-at t) search′.Post
 search-settled-requires t c κs =
     let start = c .before .before .before .before .before .before .before .before .before .before .before .before .before .before in
     omega (arith, c .before .before .before .before .before .lowest-open .ensures .within, c .if2 .left, start .pre .1 .tables .boxes)
 
-search-search-requires : (t : ℕ) → search-lts.Need-search-requires (claims t) (search-at t) search′.Post
-search-search-requires t c κs =
-    let start = c .before .before .before .before .before .before .before .before .before .before .before .before .before .before .before in (
-      omega (
-        arith,
-        start .pre .0,
-        ap openCount (c .settled .ensures),
-        branch-falls (start .args .maker .now) (start .args .depot .now) (start .args .n) (start .args .sheet .states) (start .args .given .now) (start .args .after) (start .pre .1)
-            (c .before .before .before .before .before .before .before .before .before .run .last .1 .1 .0) (rested t (c .before .before .before .before .before .before .before .before)) (c .before .before .before .before .before .before .lowest-open .result) (c .before .before .before .before .before .before .lowest-open .ensures) (c .before .before .before .before .stand-to .result) (c .before .before .before .before .stand-to .ensures)
-            (ahead-of _ (c .before .before .before .match .keys2)) (omega (arith, c .before .before .before .before .before .before .lowest-open .ensures .within, c .before .if2 .left)) 0 (omega arith),
-      ),
-      rw (c .settled .ensures, c .before .before .is-level .ensures)
-          (branch-ready (start .args .maker .now) (start .args .depot .now) (start .args .n) (start .args .sheet .states) (start .args .given .now) (start .args .after) (start .pre .1)
-          (c .before .before .before .before .before .before .before .before .before .run .last .1 .1 .0) (rested t (c .before .before .before .before .before .before .before .before)) (c .before .before .before .before .before .before .lowest-open .result) (c .before .before .before .before .before .before .lowest-open .ensures) (c .before .before .before .before .stand-to .result) (c .before .before .before .before .stand-to .ensures)
-          (ahead-of _ (c .before .before .before .match .keys2)) (omega (arith, c .before .before .before .before .before .before .lowest-open .ensures .within, c .before .if2 .left)) 0 (omega arith)),
+-- either branch: fewer boxes are open, and it is ready for a search
+branches : (t : ℕ) (c : search-lts.Else2 (claims t) (search-at t) search′.Post) (v : ℕ) → v ≤ 1 →
+    (openCount (set (c .before .before .before .before .before .before .before .before .run .last .1 .1 .0) (c .before .before .before .before .before .lowest-open .result) v) < t)
+    × Ready (c .before .before .before .before .before .before .before .before .before .before .before .before .before .before .args .maker .now) (c .before .before .before .before .before .before .before .before .before .before .before .before .before .before .args .depot .now) (c .before .before .before .before .before .before .before .before .before .before .before .before .before .before .args .n) (set (c .before .before .before .before .before .before .before .before .run .last .1 .1 .0) (c .before .before .before .before .before .lowest-open .result) v) (c .before .before .before .before .before .before .before .before .before .before .before .before .before .before .args .given .now) (c .before .is-level .result)
+branches t c v small =
+    let start = c .before .before .before .before .before .before .before .before .before .before .before .before .before .before in
+    let ahead = ahead-of _ (c .before .before .match .keys2) in (
+      omega (arith, start .pre .0, branch-falls (start .pre .1) (looked t (c .before .before .before)) ahead (box-open t c) v small),
+      rw (c .before .is-level .ensures) (branch-ready (start .pre .1) (looked t (c .before .before .before)) ahead (box-open t c) v small),
     )
+
+search-search-requires : (t : ℕ) → search-lts.Need-search-requires (claims t) (search-at t) search′.Post
+search-search-requires t c κs = rw (c .settled .ensures) (branches t (c .before) _ (omega arith))
 
 search-returns-4 : (t : ℕ) → search-lts.Need-returns-4 (claims t) (search-at t) search′.Post
 search-returns-4 t c =
     let start = c .before .before .before .before .before .before .before .before .before .before .before .before .before .before .before .before .before in
     with-found (Wanted (rulesIn (start .args .maker .now) (start .args .depot .now)) (start .args .n) (start .args .sheet .states) (start .args .after) (start .args .given .now)) true (c .before .search .result .found) _ (sym (c .if3 .taken))
-    (turn-out (start .args .maker .now) (start .args .depot .now) (start .args .n) (start .args .sheet .states) (start .args .given .now) (start .args .after) (start .pre .1)
-    (c .before .before .before .before .before .before .before .before .before .before .before .run .last .1 .1 .0) (rested t (c .before .before .before .before .before .before .before .before .before .before)) (c .before .before .before .before .before .before .before .before .lowest-open .result) (c .before .before .before .before .before .before .before .before .lowest-open .ensures) (c .before .before .before .before .before .before .stand-to .result) (c .before .before .before .before .before .before .stand-to .ensures)
-    (ahead-of _ (c .before .before .before .before .before .match .keys2)) (omega (arith, c .before .before .before .before .before .before .before .before .lowest-open .ensures .within, c .before .before .before .if2 .left)) (take (start .args .n) (c .before .search .result .sheet .states))
+    (turn-out (start .pre .1)
+    (looked t (c .before .before .before .before .before .before))
+    (ahead-of _ (c .before .before .before .before .before .match .keys2)) (box-open t (c .before .before .before)) (take (start .args .n) (c .before .search .result .sheet .states))
     (rw (c .before .before .settled .ensures, c .before .before .before .before .is-level .ensures, c .if3 .taken) at (c .before .search .ensures)))
 
 search-settled-requires-2 : (t : ℕ) → search-lts.Need-settled-requires-2 (claims t) (search-at t) search′.Post
@@ -159,28 +166,14 @@ search-settled-requires-2 t c κs =
     omega (arith, c .before .before .before .before .before .before .before .before .lowest-open .ensures .within, c .before .before .before .if2 .left, start .pre .1 .tables .boxes)
 
 search-search-requires-2 : (t : ℕ) → search-lts.Need-search-requires-2 (claims t) (search-at t) search′.Post
-search-search-requires-2 t c κs =
-    let start = c .before .before .before .before .before .before .before .before .before .before .before .before .before .before .before .before .before .before in (
-      omega (
-        arith,
-        start .pre .0,
-        ap openCount (c .settled2 .ensures),
-        branch-falls (start .args .maker .now) (start .args .depot .now) (start .args .n) (start .args .sheet .states) (start .args .given .now) (start .args .after) (start .pre .1)
-            (c .before .before .before .before .before .before .before .before .before .before .before .before .run .last .1 .1 .0) (rested t (c .before .before .before .before .before .before .before .before .before .before .before)) (c .before .before .before .before .before .before .before .before .before .lowest-open .result) (c .before .before .before .before .before .before .before .before .before .lowest-open .ensures) (c .before .before .before .before .before .before .before .stand-to .result) (c .before .before .before .before .before .before .before .stand-to .ensures)
-            (ahead-of _ (c .before .before .before .before .before .before .match .keys2)) (omega (arith, c .before .before .before .before .before .before .before .before .before .lowest-open .ensures .within, c .before .before .before .before .if2 .left)) 1 (omega arith),
-      ),
-      rw (c .settled2 .ensures, c .before .before .before .before .before .is-level .ensures)
-          (branch-ready (start .args .maker .now) (start .args .depot .now) (start .args .n) (start .args .sheet .states) (start .args .given .now) (start .args .after) (start .pre .1)
-          (c .before .before .before .before .before .before .before .before .before .before .before .before .run .last .1 .1 .0) (rested t (c .before .before .before .before .before .before .before .before .before .before .before)) (c .before .before .before .before .before .before .before .before .before .lowest-open .result) (c .before .before .before .before .before .before .before .before .before .lowest-open .ensures) (c .before .before .before .before .before .before .before .stand-to .result) (c .before .before .before .before .before .before .before .stand-to .ensures)
-          (ahead-of _ (c .before .before .before .before .before .before .match .keys2)) (omega (arith, c .before .before .before .before .before .before .before .before .before .lowest-open .ensures .within, c .before .before .before .before .if2 .left)) 1 (omega arith)),
-    )
+search-search-requires-2 t c κs = rw (c .settled2 .ensures) (branches t (c .before .before .before .before) _ (omega arith))
 
 search-returns-5 : (t : ℕ) → search-lts.Need-returns-5 (claims t) (search-at t) search′.Post
 search-returns-5 t c =
     let start = c .before .before .before .before .before .before .before .before .before .before .before .before .before .before .before .before .before .before .before in
-    turn-in (start .args .maker .now) (start .args .depot .now) (start .args .n) (start .args .sheet .states) (start .args .given .now) (start .args .after) (start .pre .1)
-    (c .before .before .before .before .before .before .before .before .before .before .before .before .before .run .last .1 .1 .0) (rested t (c .before .before .before .before .before .before .before .before .before .before .before .before)) (c .before .before .before .before .before .before .before .before .before .before .lowest-open .result) (c .before .before .before .before .before .before .before .before .before .before .lowest-open .ensures) (c .before .before .before .before .before .before .before .before .stand-to .result) (c .before .before .before .before .before .before .before .before .stand-to .ensures)
-    (ahead-of _ (c .before .before .before .before .before .before .before .match .keys2)) (omega (arith, c .before .before .before .before .before .before .before .before .before .before .lowest-open .ensures .within, c .before .before .before .before .before .if2 .left)) (take (start .args .n) (c .before .before .before .search .result .sheet .states))
+    turn-in (start .pre .1)
+    (looked t (c .before .before .before .before .before .before .before .before))
+    (ahead-of _ (c .before .before .before .before .before .before .before .match .keys2)) (box-open t (c .before .before .before .before .before)) (take (start .args .n) (c .before .before .before .search .result .sheet .states))
     (rw (c .before .before .before .before .settled .ensures, c .before .before .before .before .before .before .is-level .ensures, c .before .before .if3 .left) at (c .before .before .before .search .ensures))
     (c .search2 .result .found) (take (start .args .n) (c .search2 .result .sheet .states))
     (rw (c .before .settled2 .ensures, c .before .before .before .before .before .before .is-level .ensures) at (c .search2 .ensures))
