@@ -1,0 +1,20 @@
+-- `port::angatupyi_first` meets its contract: First's answer, as its three numbers, and what First writes.
+-- Assumes nothing.
+use borrow.Author.Needs.{needs}
+use Rattle.port.proofs.angatupyi_first.Statement.{statement}
+use Rattle.port.proofs.angatupyi_first.Tie as tie
+
+first-requires : tie.Need-first-requires
+first-requires c κs = search needs
+
+of-listed-requires : tie.Need-of-listed-requires
+of-listed-requires c κs = search needs
+
+same-length : tie.Need-same-length
+same-length c = search needs
+
+returns : tie.Need-returns
+returns c = record { says = cc; writes = cc }
+
+pub angatupyi-first-spec : {M : Type 1} → statement M
+angatupyi-first-spec = tie.close (tie.spec first-requires of-listed-requires same-length returns)
