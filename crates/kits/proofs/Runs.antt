@@ -39,32 +39,33 @@ module _ {maker depot sheet : List ℕ} {lent : ℕ → List ℕ} where
       ap₂ _∷_ (sym w ∙ v)
       (nexts-same r (subst (λ (x : List ℕ). Nexts maker depot sheet lent 1 x ks) (sym v ∙ w) s))
 
--- tables and sheet pass the checks, and every buffer lent has the sheet's length
-module _ (maker depot sheet : List ℕ) (lent : ℕ → List ℕ)
-    (passes : judge (sheetChecks maker depot sheet) passed ≡ passed) (long : (i : ℕ) → length (lent i) ≡ length sheet) where
-  -- after a list of the kits come those behind it
-  rest-after : (front : List (List ℕ)) (l : List ℕ) (rest : List (List ℕ)) → kits maker depot sheet ≡ front ++ l ∷ rest →
-      kitsAfter maker depot sheet l ≡ rest
+-- a list of the kits, with those before it and those behind it
+module _ (maker depot sheet : List ℕ) (front : List (List ℕ)) (l : List ℕ) (rest : List (List ℕ))
+    (e : kits maker depot sheet ≡ front ++ l ∷ rest) where
+  -- after it come those behind it
+  pub kits-behind : kitsAfter maker depot sheet l ≡ rest
   unfolding kitsAfter
-  rest-after front l rest e =
+  kits-behind =
       ap (those (before l)) e
       ∙ ascends-after before before-irrefl before-asym front l rest (subst (Ascends before) e (kits-in-order maker depot sheet .ascends))
 
-  kit-full : (front : List (List ℕ)) (l : List ℕ) (rest : List (List ℕ)) → kits maker depot sheet ≡ front ++ l ∷ rest →
-      IsFull (length sheet) l
-  kit-full front l rest e =
+  pub kits-full : IsFull (length sheet) l
+  kits-full =
       let here : List·Memᴰ l (front ++ l ∷ rest) = Memᴰ·append-right front (List·Memᴰ·head refl) in
       kits-in-order maker depot sheet .exactly l .0 (subst (List·Memᴰ l) (sym e) here) .full
 
-  -- so Next hands them out one after the other
+-- tables and sheet pass the checks, and every buffer lent has the sheet's length
+module _ (maker depot sheet : List ℕ) (lent : ℕ → List ℕ)
+    (passes : judge (sheetChecks maker depot sheet) passed ≡ passed) (long : (i : ℕ) → length (lent i) ≡ length sheet) where
+  -- Next hands them out one after the other
   nexts-kits : (i : ℕ) (front : List (List ℕ)) (l : List ℕ) (rest : List (List ℕ)) →
       kits maker depot sheet ≡ front ++ l ∷ rest → Nexts maker depot sheet lent i l rest
   nexts-kits i front l [] e =
-      let form = next-passes maker depot sheet passes (lent i) (long i) l (kit-full front l [] e) in
-      done (next-empty maker depot sheet l (lent i) form (rest-after front l [] e) .0)
+      let form = next-passes maker depot sheet passes (lent i) (long i) l (kits-full maker depot sheet front l [] e) in
+      done (next-empty maker depot sheet l (lent i) form (kits-behind maker depot sheet front l [] e) .0)
   nexts-kits i front l (k ∷ rest) e =
-      let form = next-passes maker depot sheet passes (lent i) (long i) l (kit-full front l (k ∷ rest) e) in
-      let next = next-head maker depot sheet l (lent i) form k rest (rest-after front l (k ∷ rest) e) in
+      let form = next-passes maker depot sheet passes (lent i) (long i) l (kits-full maker depot sheet front l (k ∷ rest) e) in
+      let next = next-head maker depot sheet l (lent i) form k rest (kits-behind maker depot sheet front l (k ∷ rest) e) in
       handed (next .0) (next .1) (nexts-kits (suc i) (front ++ l ∷ []) k rest (e ∙ sym (append-assoc front (l ∷ []) (k ∷ rest))))
 
   asked-as : (ls : List (List ℕ)) → kits maker depot sheet ≡ ls → Asked maker depot sheet lent ls

@@ -1,25 +1,19 @@
 // Prints the one-rule table: its entries in order, one decimal number a line.
 use libc::STDOUT_FILENO;
 ghost use mathlib.Core.Path.{_≡_};
-ghost use Prim.Native.Nat.{_+_, _≤_, _<_};
+ghost use Prim.Native.Nat.{_+_, _≤_};
 ghost use lib.ListN.{length, take};
 ghost use Rattle.io.specs.Counts.{Counts};
-ghost use Rattle.printout.specs.Printed.{lineOf, printed, Put};
+ghost use Rattle.text.specs.Putting.{Put};
+ghost use Rattle.printout.specs.Printed.{lineOf, printed};
 
-// Puts the line of a number below 100 at `at`, and answers where the next line starts.
+// Puts the line of a number at `at`, and answers where the next line starts.
 fn put_line(out: &mut [u8], at: usize, n: u8) -> usize
-    requires { ⌜ (at + 3 ≤ length (now out)) × (n < 100) ⌝ }
+    requires { ⌜ at + length (lineOf n) ≤ length (now out) ⌝ }
     ensures { λ r. ⌜ Put (now (out .entry)) at (lineOf n) (now (out .exit)) r ⌝ }
 {
-    if n < 10 {
-        out[at] = 48 + n;
-        out[at + 1] = 10;
-        return at + 2;
-    }
-    out[at] = 48 + n / 10;
-    out[at + 1] = 48 + n % 10;
-    out[at + 2] = 10;
-    at + 3
+    let next = text::put_decimal(out, at, n as usize);
+    text::put_byte(out, next, b'\n')
 }
 
 // Puts the lines of all entries, and answers how many bytes they are.

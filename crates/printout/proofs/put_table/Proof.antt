@@ -8,7 +8,7 @@ use lib.ListN.{length}
 use lib.Seq.{length-take-le}
 use Rattle.onerule.proofs.Outcomes.{entry-below}
 use Rattle.printout.specs.Printed.{printed}
-use Rattle.printout.proofs.Lines.{Front, line-added}
+use Rattle.printout.proofs.Lines.{line-short, Front, line-added}
 use Rattle.printout.proofs.put_table.Statement.{statement}
 use Rattle.printout.proofs.put_table.Tie as tie
 
@@ -26,7 +26,12 @@ entry-requires : tie.Need-entry-requires Inv-loop μ-loop
 entry-requires c κs = omega arith
 
 put-line-requires : tie.Need-put-line-requires Inv-loop μ-loop
-put-line-requires c κs = omega (arith, entry-below (c .before .before .before .loop .k) (omega arith))
+put-line-requires c κs =
+    let entry = c .before .entry in
+    omega (
+      arith,
+      line-short (entry .result) (omega (arith, entry .ensures, entry-below (c .before .before .before .loop .k) (omega arith))),
+    )
 
 add-k : tie.Need-add-k Inv-loop μ-loop
 add-k c = omega arith

@@ -1,0 +1,5 @@
+pub mod Rooms
+pub mod Filling
+pub mod Heads
+pub mod Showing
+pub mod Samples

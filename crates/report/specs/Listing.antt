@@ -1,0 +1,56 @@
+-- What the listing program writes, byte by byte. Fields of a line are parted by one space, numbers are decimal, and each line
+-- ends with one line feed.
+-- Assumes nothing.
+use mathlib.Core.Bool.{cond}
+use mathlib.Core.List.{List, [], _++_}
+use Prim.Native.Nat.{ℕ}
+use Prim.Native.String.{String}
+use lib.Dec.{ltb}
+use lib.ListN.{length, take}
+use Rattle.text.specs.Spelling.{ascii, decimal, spelt, digitsOf}
+use Rattle.spec.specs.Records.{recordCount}
+use Rattle.spec.specs.Refusals.{Said, refused, passed, fits, broken, filled, list}
+use Rattle.spec.specs.Fill.{openCount, fillSays, fillWrites}
+use Rattle.spec.specs.Kits.{kits}
+
+-- a word and a number, with what parts the word from the field before it and the number from the word
+abbrev pub field : String → ℕ → List ℕ
+field word n = ascii word ++ decimal n
+
+-- Fill refuses
+unfoldable pub refusedLine : (number place : ℕ) → List ℕ
+refusedLine number place = field "refused " number ++ field " " place ++ ascii "\n"
+
+-- the boxes, the records, the boxes filled, and the boxes left open
+unfoldable pub headerLine : (n rules boxes left : ℕ) → List ℕ
+headerLine n rules boxes left =
+    field "positions " n ++ field " rules " rules ++ field " filled " boxes ++ field " open " left ++ ascii "\n"
+
+-- a list
+unfoldable pub listLine : List ℕ → List ℕ
+listLine l = digitsOf l ++ ascii "\n"
+
+-- the last line: `more` where a 65th list exists, else the number of lists
+unfoldable pub endLine : ℕ → List ℕ
+endLine lists = field "end " lists ++ ascii "\n"
+
+unfoldable pub lastLine : List (List ℕ) → List ℕ
+lastLine ls = cond (ltb 64 (length ls)) (ascii "more\n") (endLine (length ls))
+
+-- at most 64 lists, and the last line
+unfoldable pub kitLines : List (List ℕ) → List ℕ
+kitLines ls = spelt listLine (take 64 ls) ++ lastLine ls
+
+-- by what Fill says, with an out buffer of the sheet's length; Fill says nothing but a refusal or a number of boxes
+unfoldable pub listingBy : (maker depot sheet : List ℕ) → Said → List ℕ
+listingBy maker depot sheet (refused number place) = refusedLine number place
+listingBy maker depot sheet (filled boxes) =
+    headerLine (length sheet) (recordCount maker depot) boxes (openCount (fillWrites maker depot sheet sheet))
+    ++ kitLines (kits maker depot sheet)
+listingBy maker depot sheet passed = []
+listingBy maker depot sheet fits = []
+listingBy maker depot sheet (broken number) = []
+listingBy maker depot sheet list = []
+
+unfoldable pub listingOf : (maker depot sheet : List ℕ) → List ℕ
+listingOf maker depot sheet = listingBy maker depot sheet (fillSays maker depot sheet sheet)

@@ -1,0 +1,127 @@
+// The whole listing: Fill's answer, the header, at most 64 lists, and the last line.
+ghost use mathlib.Core.Path.{_≡_};
+ghost use Prim.Native.Nat.{_+_, _≤_};
+ghost use lib.ListN.{length, take};
+ghost use Rattle.io.specs.Counts.{Counts};
+ghost use Rattle.text.specs.Putting.{Put};
+ghost use Rattle.spec.specs.Kits.{kits};
+ghost use Rattle.report.specs.Listing.{kitLines, listingOf};
+ghost use Rattle.report.specs.Room.{PutIn};
+ghost use Rattle.report.specs.Turns.{Listable, Boxed};
+use crate::lines::number_of;
+use crate::lines::put_end;
+use crate::lines::put_header;
+use crate::lines::put_list;
+use crate::lines::put_more;
+use crate::lines::put_refused;
+use crate::turns::first_kit;
+use crate::turns::next_kit;
+use desk::Filled;
+use sheet::count_open;
+
+const MOST_LISTS: usize = 64;
+
+// Puts the lists and the last line.
+fn put_kits<'a>(
+    maker: &'a [u8],
+    depot: &'a [u8],
+    sheet: &[u8],
+    given: &mut [u8],
+    kit: &mut [u8],
+    out: &mut [u8],
+    start: usize,
+) -> usize
+    requires { ⌜ Listable (now maker) (now depot) (now sheet) (now kit) ⌝ }
+    requires { ⌜ length (now given) ≡ length (now sheet) ⌝ }
+    requires { ⌜ start + 16500 ≤ length (now out) ⌝ }
+    ensures { λ r. ⌜ PutIn 16500 (now (out .entry)) start (kitLines (kits (now (maker .entry)) (now (depot .entry)) (now (sheet .entry)))) (now (out .exit)) r ⌝ }
+{
+    let mut at = start;
+    let mut k: usize = 0;
+    let mut found = first_kit(maker, depot, sheet, kit);
+    while k < MOST_LISTS {
+        if !found {
+            return put_end(out, at, k);
+        }
+        at = put_list(out, at, &kit[..]);
+        k += 1;
+        found = next_kit(maker, depot, sheet, given, kit);
+    }
+    if !found {
+        return put_end(out, at, k);
+    }
+    put_more(out, at)
+}
+
+// Puts everything, with three buffers lent for a sheet or list each.
+fn put_listing<'a>(
+    maker: &'a [u8],
+    depot: &'a [u8],
+    sheet: &[u8],
+    filled: &mut [u8],
+    given: &mut [u8],
+    kit: &mut [u8],
+    out: &mut [u8],
+) -> usize
+    requires { ⌜ Boxed (now sheet) (now filled) ⌝ }
+    requires { ⌜ Boxed (now sheet) (now given) ⌝ }
+    requires { ⌜ Boxed (now sheet) (now kit) ⌝ }
+    requires { ⌜ 17000 ≤ length (now out) ⌝ }
+    ensures { λ r. ⌜ PutIn 17000 (now (out .entry)) 0 (listingOf (now (maker .entry)) (now (depot .entry)) (now (sheet .entry))) (now (out .exit)) r ⌝ }
+{
+    let answer = desk::fill(maker, depot, sheet, filled);
+    match answer {
+        Filled::Boxes(count) => {
+            let rules = maker.len() / 8 + depot.len() / 8;
+            let left = count_open(&filled[..]);
+            let at = put_header(out, sheet.len(), rules, count, left);
+            put_kits(maker, depot, sheet, given, kit, out, at)
+        }
+        Filled::Clash => put_refused(out, 7, 0),
+        Filled::Broken(i) => put_refused(out, 8, i),
+        Filled::Refused(why) => {
+            let said = number_of(why);
+            put_refused(out, said.number, said.place)
+        }
+    }
+}
+
+// Room for a sheet of 256 boxes.
+fn buffer() -> [u8; 256]
+    ensures { λ r. ⌜ 256 ≡ length r ⌝ }
+{
+    [0; 256]
+}
+
+// As many boxes as the sheet has and the buffers hold.
+fn boxes(sheet: &[u8]) -> usize
+    ensures { λ r. ⌜ (r ≤ 256) × (length (now (sheet .entry)) ≤ 256 → r ≡ length (now (sheet .entry))) ⌝ }
+{
+    let n = sheet.len();
+    if n <= 256 {
+        return n;
+    }
+    256
+}
+
+// Puts the listing of these tables and this sheet at the start of out, and answers how many bytes it is.
+pub fn listing<'a>(maker: &'a [u8], depot: &'a [u8], sheet: &[u8], out: &mut [u8]) -> usize
+    requires { ⌜ 17000 ≤ length (now out) ⌝ }
+    ensures counted { λ r. ⌜ Counts r (now (out .exit)) ⌝ }
+    ensures written { λ r. ⌜ take r (now (out .exit)) ≡ listingOf (now (maker .entry)) (now (depot .entry)) (now (sheet .entry)) ⌝ }
+    ensures nothing_else { λ r. ⌜ Put (now (out .entry)) 0 (listingOf (now (maker .entry)) (now (depot .entry)) (now (sheet .entry))) (now (out .exit)) r ⌝ }
+{
+    let mut filled = buffer();
+    let mut given = buffer();
+    let mut kit = buffer();
+    let n = boxes(sheet);
+    put_listing(
+        maker,
+        depot,
+        sheet,
+        &mut filled[..n],
+        &mut given[..n],
+        &mut kit[..n],
+        out,
+    )
+}

@@ -1,0 +1,86 @@
+//! Lines that are no call, and lines that are to be passed over.
+
+use crate::call::{hex, Call, LONGEST_LINE};
+use crate::rng::Rng;
+
+/// A line that is no call, made out of a good one. Without its line feed.
+pub fn malformed(rng: &mut Rng, good: &Call) -> Vec<u8> {
+    loop {
+        let line = spoil(rng, good);
+        let passed_over = line.is_empty() || line[0] == b'#';
+        if !passed_over && Call::parse(&line).is_err() {
+            return line;
+        }
+    }
+}
+
+fn spoil(rng: &mut Rng, good: &Call) -> Vec<u8> {
+    let mut line = good.line().into_bytes();
+    let word = good.op.word().len();
+    match rng.below(16) {
+        // unknown words
+        0 => {
+            let words = ["fil", "fills", "Fill", "TEST", "shown", "quit", "error", "0", "-", "\u{e9}"];
+            line.splice(..word, rng.pick(&words).bytes());
+        }
+        1 => line[rng.below(word)] ^= rng.pick(&[1, 32, 128]),
+        2 => return rng.pick(&[" ", ".", "fill", "next ", "show . .", "fill . . .", "\r", "\t", "\0"]).into(),
+        // too few fields, too many
+        3 => line.truncate(line.iter().rposition(|&c| c == b' ').unwrap_or(word)),
+        4 => line.extend(rng.pick(&[" .", " 00", " fits", " 0 0"]).bytes()),
+        // spaces where none belong, and what is no space
+        5 => line.insert(rng.below(line.len() + 1), b' '),
+        6 => line.push(b' '),
+        7 => line.insert(0, rng.pick(b" \t.")),
+        8 => {
+            let space = line.iter().position(|&c| c == b' ').unwrap_or(word);
+            line[space] = rng.pick(b"\t\0,_");
+        }
+        9 => line.extend(rng.pick(&["\r", "\0", "\t", ";", "."]).bytes()),
+        // odd and wrong digits
+        10 => {
+            line.remove(rng.between(word + 1, line.len() - 1));
+        }
+        11 => line.insert(rng.between(word + 1, line.len()), rng.pick(b"0f")),
+        12 | 13 => {
+            let at = rng.between(word + 1, line.len() - 1);
+            line[at] = rng.pick(b"ABCDEFGgxz/:@`-+.# \xff\x80\0");
+        }
+        14 => line = line.to_ascii_uppercase(),
+        // too long, by one character or by many
+        _ => {
+            if rng.chance(30) {
+                let over = rng.pick(&[1, 2, 3, 1000, 100_000]);
+                return long_line(rng, LONGEST_LINE + over);
+            }
+            line.truncate(rng.below(line.len()));
+        }
+    }
+    line
+}
+
+/// A call of this many characters, if it is allowed to be so long. Needs some hundreds of characters.
+pub fn long_line(rng: &mut Rng, characters: usize) -> Vec<u8> {
+    // "fill" and "test" with their spaces leave an even or an odd number of characters for the bytes
+    let (word, fields) = if characters % 2 == 0 { ("fill", 4) } else { ("test", 3) };
+    let total = (characters - word.len() - fields) / 2;
+    let mut line = word.to_string();
+    let large = rng.below(fields);
+    for field in 0..fields {
+        let bytes = if field == large { total - 8 * (fields - 1) } else { 8 };
+        line.push(' ');
+        line.push_str(&hex(&vec![rng.pick(&[0, 1, 2, 0xee]); bytes]));
+    }
+    assert_eq!(line.len(), characters);
+    line.into_bytes()
+}
+
+/// A line that is passed over without an answer.
+pub fn passed_over(rng: &mut Rng, good: &Call) -> Vec<u8> {
+    match rng.below(4) {
+        0 => Vec::new(),
+        1 => b"#".to_vec(),
+        2 => format!("# {}", rng.next()).into_bytes(),
+        _ => format!("#{}", good.line()).into_bytes(),
+    }
+}

@@ -1,0 +1,60 @@
+//! The specification's samples that are too long to be stored, with the answers as it states them: the limits. The others
+//! are in second/regress/samples.probe.
+
+use crate::call::{hex, Call, Op};
+use crate::closure::one_rule_table;
+use crate::record::encode;
+use crate::stream::{Due, Item};
+
+/// P11: entries of the one-rule table.
+const P11: [(usize, u8); 6] = [(150, 21), (168, 40), (201, 5), (6, 62), (137, 63), (106, 42)];
+
+/// What is wrong with the one-rule table, in words.
+pub fn check_one_rule_table() -> Vec<String> {
+    let table = one_rule_table();
+    let wrong = P11.iter().filter(|(entry, held)| table[*entry] != *held);
+    let mut wrong: Vec<String> = wrong.map(|(entry, held)| format!("P11: entry {entry} is not {held}")).collect();
+    let keeps_z = |entry: &usize| table[*entry] as usize % 4 == entry % 4;
+    wrong.extend((0..128).filter(|entry| !keeps_z(entry)).map(|entry| format!("entry {entry} does not keep z")));
+    wrong
+}
+
+/// Fill on so many open boxes and so many records, each EQU of the two last boxes. `plus` is added to their numbers.
+fn fill(boxes: usize, makers: usize, depots: usize, plus: usize) -> Call {
+    let record = encode(1, &[boxes.saturating_sub(2) + plus, boxes.saturating_sub(1) + plus]);
+    let mut call = Call::new(Op::Fill);
+    call.maker = record.repeat(makers);
+    call.depot = record.repeat(depots);
+    call.sheet = vec![2; boxes];
+    call.out = vec![0xee; boxes];
+    call
+}
+
+pub fn limits() -> Vec<Item> {
+    let accepted = |call: Call| (format!("filled 0 {}", hex(&call.sheet)), call);
+    let refused =
+        |number: usize, place: usize, call: Call| (format!("refused {number} {place} {}", hex(&call.out)), call);
+    let samples = [
+        // n = 256 accepted, 257 refusal 1
+        accepted(fill(255, 1, 0, 0)),
+        accepted(fill(256, 1, 0, 0)),
+        refused(1, 0, fill(257, 1, 0, 0)),
+        // 1,024 records accepted, 1,025 refusal 2 place 2
+        accepted(fill(2, 1024, 0, 0)),
+        accepted(fill(2, 0, 1024, 0)),
+        accepted(fill(2, 1000, 24, 0)),
+        refused(2, 2, fill(2, 1025, 0, 0)),
+        refused(2, 2, fill(2, 0, 1025, 0)),
+        refused(2, 2, fill(2, 1024, 1, 0)),
+        refused(2, 2, fill(2, 1, 1024, 0)),
+        // box number n - 1 accepted, n refused
+        refused(3, 0, fill(2, 1, 0, 1)),
+        refused(3, 0, fill(256, 0, 1, 1)),
+    ];
+    let item = |(due, call): (String, Call)| {
+        let item = Item::of_call(&call).expect("Fill takes no search");
+        assert_eq!(item.due, Due::Answer(due), "a sample of the specification");
+        item
+    };
+    samples.into_iter().map(item).collect()
+}

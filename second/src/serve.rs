@@ -1,0 +1,126 @@
+//! This program in place of the probe and of the listing program, right or with a bug planted, so that the comparison
+//! itself can be tried.
+
+use crate::bugs::BUGS;
+use crate::call::Call;
+use crate::desk::answer;
+use crate::listing::{Folder, MOST_LISTS};
+use std::fs;
+use std::io::{self, BufRead, Write};
+
+/// Bugs of reading and writing lines, after those of the library.
+pub const LINE_BUGS: &[&str] = &[
+    "the line after a malformed one is lost",
+    "a malformed line is answered twice",
+    "capital digits are taken",
+    "a line that begins with # is answered",
+    "lines end with a carriage return too",
+    "a call after a Next that said 9 keeps that answer's number",
+    "the program breaks off at 40 boxes",
+    "an empty buffer is written as nothing",
+    "lines of 200,000 characters are too long",
+    "the last line without its line feed is lost",
+];
+
+pub const LISTING_BUGS: &[&str] = &[
+    "`more` after exactly 64 lists",
+    "no line for the empty list",
+    "refused 9 where there is no list",
+    "8,192 bytes of a table are read",
+    "`open` counts before the fill",
+    "no line feed at the end",
+    "nothing at all where a file is missing",
+    "`more` with a number",
+    "65 lists are written",
+];
+
+/// Answers probe lines until the input ends. Bug 0 is none.
+pub fn probe(bug: usize) -> io::Result<()> {
+    let line_bug = |number: usize| bug == BUGS.len() + number;
+    let mut out = io::BufWriter::new(io::stdout().lock());
+    let mut input = io::stdin().lock();
+    let mut line = Vec::new();
+    let (mut lose, mut nine) = (false, false);
+    loop {
+        line.clear();
+        if input.read_until(b'\n', &mut line)? == 0 {
+            return out.flush();
+        }
+        let whole = line.pop_if(|&mut byte| byte == b'\n').is_some();
+        if line_bug(10) && !whole {
+            continue;
+        }
+        if line.is_empty() || line[0] == b'#' && !line_bug(4) {
+            continue;
+        }
+        if line_bug(3) {
+            line.make_ascii_lowercase();
+        }
+        if line_bug(9) && line.len() == crate::call::LONGEST_LINE {
+            line.extend(b"0000");
+        }
+        let mut text = match Call::parse(&line) {
+            Err(reason) => {
+                lose = line_bug(1);
+                let times = if line_bug(2) { 2 } else { 1 };
+                vec![format!("error {reason}"); times].join("\n")
+            }
+            Ok(_) if lose => {
+                lose = false;
+                continue;
+            }
+            Ok(call) if line_bug(7) && call.sheet.len() == 40 => {
+                out.flush()?;
+                std::process::abort();
+            }
+            Ok(call) => {
+                let wrong = BUGS.get(bug.wrapping_sub(1)).and_then(|(_, wrong)| wrong(&call));
+                let right = || answer(&call).map_or("too long".to_string(), |answer| answer.line(&call));
+                wrong.unwrap_or_else(right)
+            }
+        };
+        if line_bug(6) && nine {
+            text = text.replacen("refused 7", "refused 9", 1);
+        }
+        nine = text.starts_with("refused 9") && line.starts_with(b"next");
+        if line_bug(5) {
+            text.push('\r');
+        }
+        if line_bug(8) {
+            text = text.replace(" .", " ");
+        }
+        writeln!(out, "{text}")?;
+    }
+}
+
+/// Writes the listing of the current folder. Bug 0 is none.
+pub fn listing(bug: usize) -> io::Result<()> {
+    let file = |name| fs::read(name).ok();
+    let mut folder = Folder { maker: file("maker.tab"), depot: file("depot.tab"), sheet: file("order.sht") };
+    if bug == 4 {
+        for table in [&mut folder.maker, &mut folder.depot].into_iter().flatten() {
+            table.truncate(8192);
+        }
+    }
+    let mut text = folder.listing().unwrap_or_default();
+    let full = format!("end {MOST_LISTS}\n");
+    match bug {
+        1 => text = text.replace(&full, "more\n"),
+        2 => text = text.replace("\n\n", "\n"),
+        3 if text.ends_with("\nend 0\n") => text = "refused 9 0\n".to_string(),
+        5 => {
+            let open = folder.sheet.iter().flatten().filter(|&&byte| byte == 2).count();
+            if let Some((head, tail)) = text.clone().split_once('\n') {
+                if let Some((start, _)) = head.rsplit_once(' ').filter(|_| head.starts_with('p')) {
+                    text = format!("{start} {open}\n{tail}");
+                }
+            }
+        }
+        6 => text.truncate(text.len() - 1),
+        7 if folder.files().iter().any(|(_, file)| file.is_none()) => text.clear(),
+        8 => text = text.replace("more\n", "more 65\n"),
+        9 => text = text.replace("more\n", "1\nmore\n"),
+        _ => {}
+    }
+    io::stdout().write_all(text.as_bytes())
+}
