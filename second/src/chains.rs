@@ -68,12 +68,12 @@ struct Links {
     /// States under which every link holds.
     states: Vec<u8>,
     records: Vec<Bytes>,
-    /// All open but the two helpers, if there are any.
+    /// All open but the two anchors, if there are any.
     sheet: Vec<u8>,
 }
 
 impl Links {
-    /// Needs two boxes. With a helper box that is in, AND ties its other two boxes as EQU does; OR with one that is out.
+    /// Needs two boxes. With a anchor box that is in, AND ties its other two boxes as EQU does; OR with one that is out.
     fn new(rng: &mut Rng, n: usize) -> Links {
         let mut path: Vec<usize> = (0..n).collect();
         match rng.below(3) {
@@ -81,7 +81,7 @@ impl Links {
             1 if n <= 14 => rng.shuffle(&mut path),
             _ => {}
         }
-        let helpers: Vec<usize> = if n >= 5 && rng.chance(70) {
+        let anchors: Vec<usize> = if n >= 5 && rng.chance(70) {
             (0..2).map(|_| path.remove(rng.below(path.len()))).collect()
         } else {
             Vec::new()
@@ -91,16 +91,16 @@ impl Links {
         }
         let mut states = rng.states(n);
         let mut sheet = vec![2; n];
-        for (&helper, state) in helpers.iter().zip([1, 0]) {
-            states[helper] = state;
+        for (&anchor, state) in anchors.iter().zip([1, 0]) {
+            states[anchor] = state;
             if rng.chance(90) {
-                sheet[helper] = state;
+                sheet[anchor] = state;
             }
         }
         let mut records = Vec::new();
         for i in 1..path.len() {
             let (mut a, mut b) = (path[i - 1], path[i]);
-            let kind = if helpers.is_empty() { rng.between(1, 2) } else { rng.between(1, 4) } as u8;
+            let kind = if anchors.is_empty() { rng.between(1, 2) } else { rng.between(1, 4) } as u8;
             states[b] = states[a] ^ (kind == 2) as u8;
             if rng.chance(50) {
                 (a, b) = (b, a);
@@ -108,8 +108,8 @@ impl Links {
             records.push(match kind {
                 1 | 2 => encode(kind, &[a, b]),
                 _ => {
-                    let helper = helpers[kind as usize - 3];
-                    let (x, y) = if rng.chance(50) { (a, helper) } else { (helper, a) };
+                    let anchor = anchors[kind as usize - 3];
+                    let (x, y) = if rng.chance(50) { (a, anchor) } else { (anchor, a) };
                     encode(kind, &[x, y, b])
                 }
             });
