@@ -71,7 +71,7 @@ impl Check {
         let differs = |call: &Call| {
             let smaller = as_folder(call, folder);
             let got = smaller.listing().and_then(|due| Some((listing.difference(&smaller, &due)?, due)));
-            got.is_some_and(|(got, due)| kind(&due, &got) == like)
+            got.map_or(false, |(got, due)| kind(&due, &got) == like)
         };
         // each candidate is a run of its own, so there is a limit
         let mut runs = 0;

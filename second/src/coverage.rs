@@ -94,7 +94,7 @@ fn whose(call: &Call, record: usize) -> &'static str {
 /// Why there is no list.
 fn nine(call: &Call) -> &'static str {
     let records = decode_tables(&call.maker, &call.depot);
-    let any = || kits(&records, &call.sheet, None, 1).is_some_and(|lists| !lists.is_empty());
+    let any = || kits(&records, &call.sheet, None, 1).map_or(false, |lists| !lists.is_empty());
     if closure(&records, Facts::of_sheet(&call.sheet)).clash() {
         "9 at a clash"
     } else if call.op == Op::Next && any() {

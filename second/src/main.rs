@@ -137,8 +137,8 @@ impl Drop for WorkFolder {
 }
 
 fn in_work_folder(job: impl FnOnce(&Path) -> Result<bool, String>) -> Result<bool, String> {
-    let name = format!("target/second/work-{}", std::process::id());
-    let path = std::path::absolute(name).map_err(|error| error.to_string())?;
+    let here = std::env::current_dir().map_err(|error| error.to_string())?;
+    let path = here.join(format!("target/second/work-{}", std::process::id()));
     fs::create_dir_all(&path).map_err(|error| format!("{}: {error}", path.display()))?;
     job(&WorkFolder(path).0)
 }

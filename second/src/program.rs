@@ -22,8 +22,9 @@ pub struct Outcome {
 impl Program {
     /// A command's words are parted by spaces. Words that name files are made absolute: the program runs elsewhere.
     pub fn new(command: &str, work: &Path) -> Result<Program, String> {
-        let absolute = |word: &str| match std::path::absolute(word) {
-            Ok(path) if path.exists() => path.display().to_string(),
+        let here = std::env::current_dir().map_err(|error| error.to_string())?;
+        let absolute = |word: &str| match here.join(word) {
+            path if path.exists() => path.display().to_string(),
             _ => word.to_string(),
         };
         let words: Vec<String> = command.split_whitespace().map(absolute).collect();

@@ -72,7 +72,7 @@ impl Record {
     pub fn is_broken_by(&self, list: &[u8]) -> bool {
         let named = self.boxes();
         let holds_in = |row: &&[u8]| named.iter().zip(*row).all(|(&b, &state)| list[b] == state);
-        !rows(self.kind).iter().any(|row| holds_in(row))
+        !rows(self.kind).iter().any(holds_in)
     }
 }
 

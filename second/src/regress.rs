@@ -14,7 +14,7 @@ use std::path::{Path, PathBuf};
 fn files(folder: &Path, ending: &str) -> Vec<PathBuf> {
     let entries = fs::read_dir(folder).into_iter().flatten().flatten();
     let mut files: Vec<PathBuf> = entries.map(|entry| entry.path()).collect();
-    files.retain(|path| path.extension().is_some_and(|e| e == ending));
+    files.retain(|path| path.extension().map_or(false, |e| e == ending));
     files.sort();
     files
 }

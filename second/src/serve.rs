@@ -46,7 +46,10 @@ pub fn probe(bug: usize) -> io::Result<()> {
         if input.read_until(b'\n', &mut line)? == 0 {
             return out.flush();
         }
-        let whole = line.pop_if(|&mut byte| byte == b'\n').is_some();
+        let whole = line.last() == Some(&b'\n');
+        if whole {
+            line.pop();
+        }
         if line_bug(10) && !whole {
             continue;
         }

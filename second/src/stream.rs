@@ -93,7 +93,7 @@ pub fn input(items: &[Item]) -> Vec<u8> {
         bytes.extend(&item.line);
         bytes.push(b'\n');
     }
-    if items.last().is_some_and(|item| item.due != Due::Nothing) {
+    if items.last().map_or(false, |item| item.due != Due::Nothing) {
         bytes.pop();
     }
     bytes
