@@ -72,17 +72,17 @@ impl Call {
         if line.len() > LONGEST_LINE {
             return Err("long");
         }
-        let mut fields = line.split(|&byte| byte == b' ');
-        let word = fields.next().unwrap_or_default();
-        let op = Op::ALL.into_iter().find(|op| op.word().as_bytes() == word);
+        let fields: Vec<&[u8]> = line.split(|&byte| byte == b' ').collect();
+        let op = Op::ALL.into_iter().find(|op| op.word().as_bytes() == fields[0]);
         let mut call = Call::new(op.ok_or("word")?);
-        for buffer in call.buffers() {
-            *buffer = unhex(fields.next().ok_or("fields")?).ok_or("digits")?;
+        let mut buffers = call.buffers();
+        if fields.len() != buffers.len() + 1 {
+            return Err("fields");
         }
-        match fields.next() {
-            Some(_) => Err("fields"),
-            None => Ok(call),
+        for (buffer, field) in buffers.iter_mut().zip(&fields[1..]) {
+            **buffer = unhex(field).ok_or("digits")?;
         }
+        Ok(call)
     }
 }
 

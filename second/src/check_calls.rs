@@ -58,7 +58,7 @@ impl Check {
             for item in &random {
                 counts[match item.due {
                     Due::Answer(_) => 0,
-                    Due::Error => 1,
+                    Due::Error(_) => 1,
                     Due::Nothing => 2,
                 }] += 1;
             }
@@ -109,7 +109,7 @@ impl Check {
             before.or_else(|| shrink::lines(probe, items)).unwrap_or(alone.to_vec())
         };
         let few = match (few.as_slice(), Call::parse(&few[0].line)) {
-            ([one], Ok(call)) if one.due != Due::Error => vec![smallest(probe, call, kind)],
+            ([_], Ok(call)) => vec![smallest(probe, call, kind)],
             _ => few,
         };
         let got = probe.run(&few).differences.pop();

@@ -3,13 +3,15 @@
 use crate::call::{hex, Call, LONGEST_LINE};
 use crate::rng::Rng;
 
-/// A line that is no call, made out of a good one. Without its line feed.
-pub fn malformed(rng: &mut Rng, good: &Call) -> Vec<u8> {
+/// A line that is no call, made out of a good one, and the reason. Without its line feed.
+pub fn malformed(rng: &mut Rng, good: &Call) -> (Vec<u8>, &'static str) {
     loop {
         let line = spoil(rng, good);
-        let passed_over = line.is_empty() || line[0] == b'#';
-        if !passed_over && Call::parse(&line).is_err() {
-            return line;
+        if line.is_empty() || line[0] == b'#' {
+            continue;
+        }
+        if let Err(reason) = Call::parse(&line) {
+            return (line, reason);
         }
     }
 }

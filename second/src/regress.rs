@@ -38,36 +38,33 @@ fn read_items(path: &Path) -> Result<Vec<Item>, String> {
         if let Some(answer) = line.strip_prefix(b"#= ") {
             due = Some(String::from_utf8_lossy(answer).into_owned());
         }
-        let stored = if line.is_empty() || line[0] == b'#' {
-            Due::Nothing
-        } else {
-            match due.take().ok_or("a line has no answer")? {
-                word if word == "error WORD" => Due::Error,
-                answer => Due::Answer(answer),
-            }
-        };
-        check(line, &stored)?;
-        let line = line.to_vec();
-        items.push(Item { line, due: stored });
+        let item = item(line)?;
+        if item.due != Due::Nothing {
+            check(&item, &due.take().ok_or("a line has no answer")?)?;
+        }
+        items.push(item);
     }
     Ok(items)
 }
 
-/// A stored answer must be this program's own.
-fn check(line: &[u8], stored: &Due) -> Result<(), String> {
-    let ours = match (stored, Call::parse(line)) {
-        (Due::Nothing, _) => Due::Nothing,
-        (_, Err(_)) => Due::Error,
-        (_, Ok(call)) => match answer(&call) {
-            Some(answer) => Due::Answer(answer.line(&call)),
-            None => return Err("a stored call takes too long".to_string()),
-        },
+fn item(line: &[u8]) -> Result<Item, String> {
+    let passed_over = line.is_empty() || line[0] == b'#';
+    let due = match Call::parse(line) {
+        _ if passed_over => Due::Nothing,
+        Err(reason) => Due::Error(reason),
+        Ok(call) => Due::Answer(answer(&call).ok_or("a stored call takes too long")?.line(&call)),
     };
-    if *stored == ours {
+    Ok(Item { line: line.to_vec(), due })
+}
+
+/// A stored answer must be this program's own.
+fn check(item: &Item, stored: &str) -> Result<(), String> {
+    let ours = item.answer_due();
+    if stored == ours {
         Ok(())
     } else {
-        let line = String::from_utf8_lossy(line);
-        Err(format!("stored is {stored:?}, computed {ours:?}, for {line}"))
+        let line = String::from_utf8_lossy(&item.line);
+        Err(format!("stored is {stored}, computed {ours}, for {line}"))
     }
 }
 

@@ -11,8 +11,8 @@ use crate::rng::Rng;
 pub enum Due {
     /// This line.
     Answer(String),
-    /// `error` and one word.
-    Error,
+    /// `error` and this reason.
+    Error(&'static str),
     /// No answer.
     Nothing,
 }
@@ -38,10 +38,7 @@ impl Item {
     pub fn is_answered_by(&self, got: &[u8]) -> bool {
         match &self.due {
             Due::Answer(line) => line.as_bytes() == got,
-            Due::Error => {
-                let word = got.strip_prefix(b"error ").unwrap_or_default();
-                !word.is_empty() && word.iter().all(|c| c.is_ascii_graphic())
-            }
+            Due::Error(reason) => format!("error {reason}").as_bytes() == got,
             Due::Nothing => false,
         }
     }
@@ -49,7 +46,7 @@ impl Item {
     pub fn answer_due(&self) -> String {
         match &self.due {
             Due::Answer(line) => line.clone(),
-            Due::Error => "error WORD".to_string(),
+            Due::Error(reason) => format!("error {reason}"),
             Due::Nothing => "no answer".to_string(),
         }
     }
@@ -63,8 +60,8 @@ pub fn items(seed: u64, numbers: std::ops::Range<u64>, coverage: &mut Coverage) 
         let (call, answer) = call(seed, number);
         let mut rng = Rng::new(!seed, number);
         if number % 40 == 17 {
-            let due = Due::Error;
-            items.push(Item { line: malformed(&mut rng, &call), due });
+            let (line, reason) = malformed(&mut rng, &call);
+            items.push(Item { line, due: Due::Error(reason) });
         }
         if number % 100 == 3 {
             let due = Due::Nothing;

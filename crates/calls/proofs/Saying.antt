@@ -1,0 +1,69 @@
+-- What an operation says as three numbers, and in words; and how long the words are.
+-- Assumes nothing.
+use mathlib.Core.Path.{_≡_, refl, sym, _∙_, ap}
+use mathlib.Core.List.{List, [], _∷_}
+use Prim.Native.Nat.{ℕ, _+_, _*_, _^_, _≤_, _<_}
+use native.Mathlib.Omega.{arith}
+use lib.ListN.{length}
+use Rattle.spec.specs.Refusals.{Said, refused, passed, fits, broken, filled, list}
+use Rattle.text.specs.Spelling.{decimal, hexPair, hexOf}
+use Rattle.text.proofs.Spells.{spelt-length, hex-some, hex-none}
+use Rattle.text.proofs.Decimals.{decimal-length}
+use Rattle.accept.proofs.Refused.{numbered}
+use Rattle.accept.specs.declared.form.Refusal.{Refusal}
+use Rattle.accept.specs.Form.{refusalSays}
+use Rattle.fits.specs.declared.Tested.{Tested}
+use Rattle.fits.specs.declared.Tested.the-variants as tested
+use Rattle.fits.specs.Answer.{testedSays}
+use Rattle.fill.specs.declared.operation.Filled.{Filled}
+use Rattle.fill.specs.declared.operation.Filled.the-variants as filling
+use Rattle.fill.specs.Answer.{filledSays}
+use Rattle.lists.specs.declared.operation.Listed.{Listed}
+use Rattle.lists.specs.declared.operation.Listed.the-variants as listed
+use Rattle.lists.specs.Answer.{listedSays}
+use Rattle.numbers.specs.declared.Numbers.{Numbers}
+use Rattle.numbers.specs.Numbering.{threeOf, inOrder}
+
+pub decimal-short-enough : (n : ℕ) → n < 2 ^ 64 → length (decimal n) ≤ 20
+decimal-short-enough n h = decimal-length 19 n (omega arith)
+
+pub hex-length : (l : List ℕ) → length (hexOf l) ≤ 2 * length l + 1
+hex-length [] = rw (hex-none [] refl) (omega arith)
+hex-length (b ∷ l) = rw (hex-some (b ∷ l) (omega arith)) (omega (arith, spelt-length hexPair 2 (λ b. refl) (b ∷ l)))
+
+-- the first of the three numbers is 1 just for a refusal, and 2 just for a broken record
+module _ (n : Numbers) where
+  pub code-refused : (s : Said) → inOrder n ≡ threeOf s → n .code ≡ 1 → s ≡ refused (n .first) (n .second)
+  code-refused (refused number place) e c = cc
+  code-refused passed e c = cc
+  code-refused fits e c = cc
+  code-refused (broken number) e c = cc
+  code-refused (filled boxes) e c = cc
+  code-refused list e c = cc
+
+  pub code-broken : (s : Said) → inOrder n ≡ threeOf s → n .code ≡ 2 → s ≡ broken (n .first)
+  code-broken (refused number place) e c = cc
+  code-broken passed e c = cc
+  code-broken fits e c = cc
+  code-broken (broken number) e c = cc
+  code-broken (filled boxes) e c = cc
+  code-broken list e c = cc
+
+  refusal-code : (why : Refusal) → inOrder n ≡ threeOf (refusalSays why) → n .code ≡ 1
+  refusal-code why e = let r = numbered why in let s : inOrder n ≡ 1 ∷ r .0 ∷ r .1 ∷ [] = e ∙ ap threeOf (r .2) in cc
+
+  pub filled-done : (a : Filled) → inOrder n ≡ threeOf (filledSays a) → (n .code ≡ 1 → ⊥) → filledSays a ≡ filled (n .first)
+  filled-done (filling.Boxes count) e c = cc
+  filled-done filling.Clash e c = absurd (c (cc))
+  filled-done (filling.Broken number) e c = absurd (c (cc))
+  filled-done (filling.Refused why) e c = absurd (c (refusal-code why e))
+
+  pub tested-done : (a : Tested) → inOrder n ≡ threeOf (testedSays a) → (n .code ≡ 1 → ⊥) → (n .code ≡ 2 → ⊥) → testedSays a ≡ fits
+  tested-done tested.Fits e c d = refl
+  tested-done (tested.Broken number) e c d = absurd (d (cc))
+  tested-done (tested.Refused why) e c d = absurd (c (refusal-code why e))
+
+  pub listed-done : (a : Listed) → inOrder n ≡ threeOf (listedSays a) → (n .code ≡ 1 → ⊥) → listedSays a ≡ list
+  listed-done listed.List e c = refl
+  listed-done listed.None e c = absurd (c (cc))
+  listed-done (listed.Refused why) e c = absurd (c (refusal-code why e))

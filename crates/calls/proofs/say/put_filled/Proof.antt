@@ -1,0 +1,56 @@
+-- `calls::say::put_filled` meets its contract: by the first of the three numbers.
+-- Assumes nothing.
+use native.Mathlib.Omega.{arith}
+use Rattle.fill.specs.Answer.{filledSays}
+use Rattle.calls.proofs.Saying.{code-refused, filled-done}
+use borrow.Author.Needs.{needs}
+use Rattle.calls.proofs.say.put_filled.Statement.{statement}
+use Rattle.calls.proofs.say.put_filled.Tie as tie
+use Rattle.calls.proofs.say.put_filled.Reads as reads
+use Rattle.calls.proofs.say.put_filled.Lts as lts
+use Rattle.calls.proofs.say.put_counted.Reads as put-counted-reads
+use Rattle.calls.proofs.say.put_refused.Reads as put-refused-reads
+use Rattle.numbers.proofs.of_filled.Reads as of-filled-reads
+
+of-filled-requires : tie.Need-of-filled-requires
+of-filled-requires c κs = search needs
+
+put-refused-requires : tie.Need-put-refused-requires
+put-refused-requires c κs = search needs
+
+same-length : tie.Need-same-length
+same-length c = search needs
+
+returns : tie.Need-returns
+returns c =
+    let start = c .before .before .before .before .before .before .before .before in
+    rw (code-refused _ (filledSays (start .args .answer)) (c .before .before .before .before .before .before .of-filled .ensures) (c .before .before .before .before .if1 .taken)) (c .before .before .put-refused .ensures)
+
+slice-aggregate-put-counted : tie.Need-slice-aggregate-put-counted
+slice-aggregate-put-counted c = search needs
+
+put-counted-requires : tie.Need-put-counted-requires
+put-counted-requires c κs = search needs
+
+same-length-2 : tie.Need-same-length-2
+same-length-2 c = search needs
+
+returns-2 : tie.Need-returns-2
+returns-2 c =
+    let start = c .before .before .before .before .before .before .before .before .before in
+    let counted = c .before .before .put-counted .ensures in
+    rw (filled-done _ (start .args .answer) (c .before .before .before .before .before .before .before .of-filled .ensures) (c .before .before .before .before .before .if1 .left))
+    (record { puts = counted .0; short = omega (arith, counted .1) })
+
+pub put-filled-spec : {M : Type 1} → statement M
+put-filled-spec =
+    tie.close
+    (tie.spec
+    of-filled-requires
+    put-refused-requires
+    same-length
+    returns
+    slice-aggregate-put-counted
+    put-counted-requires
+    same-length-2
+    returns-2)

@@ -1,0 +1,77 @@
+-- `calls::say::put_tested` meets its contract: by the first of the three numbers.
+-- Assumes nothing.
+use native.Mathlib.Omega.{arith}
+use Rattle.fits.specs.Answer.{testedSays}
+use Rattle.calls.proofs.Saying.{code-refused, code-broken, tested-done}
+use borrow.Author.Needs.{needs}
+use Rattle.calls.proofs.say.put_tested.Statement.{statement}
+use Rattle.calls.proofs.say.put_tested.Tie as tie
+use Rattle.calls.proofs.say.put_tested.Reads as reads
+use Rattle.calls.proofs.say.put_tested.Lts as lts
+use Rattle.calls.proofs.say.put_counted.Reads as put-counted-reads
+use Rattle.calls.proofs.say.put_refused.Reads as put-refused-reads
+use Rattle.numbers.proofs.of_tested.Reads as of-tested-reads
+use Rattle.text.proofs.put_bytes.Reads as put-bytes-reads
+
+of-tested-requires : tie.Need-of-tested-requires
+of-tested-requires c κs = search needs
+
+put-refused-requires : tie.Need-put-refused-requires
+put-refused-requires c κs = search needs
+
+same-length : tie.Need-same-length
+same-length c = search needs
+
+returns : tie.Need-returns
+returns c =
+    let start = c .before .before .before .before .before .before .before .before in
+    rw (code-refused _ (testedSays (start .args .answer)) (c .before .before .before .before .before .before .of-tested .ensures) (c .before .before .before .before .if1 .taken)) (c .before .before .put-refused .ensures)
+
+slice-aggregate-put-counted : tie.Need-slice-aggregate-put-counted
+slice-aggregate-put-counted c = search needs
+
+put-counted-requires : tie.Need-put-counted-requires
+put-counted-requires c κs = search needs
+
+same-length-2 : tie.Need-same-length-2
+same-length-2 c = search needs
+
+returns-2 : tie.Need-returns-2
+returns-2 c =
+    let start = c .before .before .before .before .before .before .before .before .before .before .before in
+    let counted = c .before .before .put-counted .ensures in
+    rw (code-broken _ (testedSays (start .args .answer)) (c .before .before .before .before .before .before .before .before .before .of-tested .ensures) (c .before .before .before .before .before .if2 .taken))
+    (record { puts = counted .0; short = omega (arith, counted .1) })
+
+slice-aggregate-put-bytes : tie.Need-slice-aggregate-put-bytes
+slice-aggregate-put-bytes c = search needs
+
+put-bytes-requires : tie.Need-put-bytes-requires
+put-bytes-requires c κs = search needs
+
+same-length-3 : tie.Need-same-length-3
+same-length-3 c = search needs
+
+returns-3 : tie.Need-returns-3
+returns-3 c =
+    let start = c .before .before .before .before .before .before .before .before .before .before .before in
+    let put = c .before .before .put-bytes .ensures in
+    rw (tested-done _ (start .args .answer) (c .before .before .before .before .before .before .before .before .before .of-tested .ensures) (c .before .before .before .before .before .before .before .if1 .left) (c .before .before .before .before .before .if2 .left))
+    (record { puts = put; short = omega (arith, put .after) })
+
+pub put-tested-spec : {M : Type 1} → statement M
+put-tested-spec =
+    tie.close
+    (tie.spec
+    of-tested-requires
+    put-refused-requires
+    same-length
+    returns
+    slice-aggregate-put-counted
+    put-counted-requires
+    same-length-2
+    returns-2
+    slice-aggregate-put-bytes
+    put-bytes-requires
+    same-length-3
+    returns-3)

@@ -1,0 +1,7 @@
+pub mod Ascii
+pub mod Words
+pub mod Cuts
+pub mod Fields
+pub mod Answers
+pub mod Parts
+pub mod Lines

@@ -1,0 +1,51 @@
+-- What is written for a line: nothing, or its answer and a line feed. This is all that has to be believed of the line protocol.
+-- Assumes nothing.
+use mathlib.Core.Bool.{Bool, true, false, cond}
+use mathlib.Core.List.{List, [], _∷_, _++_}
+use Prim.Native.Nat.{ℕ, _+_}
+use lib.Dec.{ltb, eqb}
+use lib.ListN.{length, getD, drop}
+use Rattle.lemmas.specs.Lists.{all}
+use Rattle.calls.specs.Ascii.{ascii}
+use Rattle.calls.specs.Words.{wordOf}
+use Rattle.calls.specs.Fields.{fieldsOf, isField}
+use Rattle.calls.specs.Answers.{errorFor, answerTo}
+use Rattle.calls.specs.declared.word.Word.{Word}
+use Rattle.calls.specs.declared.word.Word.the-variants.{Fill, Test, Show, First, Next, Unknown}
+
+abbrev pub isKnown : Word → Bool
+isKnown Fill = true
+isKnown Test = true
+isKnown Show = true
+isKnown First = true
+isKnown Next = true
+isKnown Unknown = false
+
+-- how many fields follow the word
+abbrev pub arity : Word → ℕ
+arity Fill = 4
+arity Test = 3
+arity Show = 3
+arity First = 4
+arity Next = 5
+arity Unknown = 0
+
+-- the word that the line begins with
+abbrev pub lineWord : List ℕ → Word
+lineWord line = wordOf (getD (fieldsOf line) 0 [])
+
+-- the answer to a line of some characters: too long, an unknown word, the wrong number of fields, wrong digits, in this order;
+-- else that of the call
+unfoldable pub answerOf : List ℕ → List ℕ
+answerOf line =
+    cond (ltb 200000 (length line)) (errorFor (ascii "long"))
+    (cond (isKnown (lineWord line))
+    (cond (eqb (length (fieldsOf line)) (arity (lineWord line) + 1))
+    (cond (all isField (drop 1 (fieldsOf line))) (answerTo (lineWord line) (drop 1 (fieldsOf line))) (errorFor (ascii "digits")))
+    (errorFor (ascii "fields")))
+    (errorFor (ascii "word")))
+
+-- an empty line and a line that begins with # (35) are passed over; any other answer is ended by a line feed (10)
+unfoldable pub replyTo : List ℕ → List ℕ
+replyTo [] = []
+replyTo (c ∷ l) = cond (eqb c 35) [] (answerOf (c ∷ l) ++ 10 ∷ [])

@@ -1,0 +1,102 @@
+-- `stream::advance` meets its contract, turn by turn.
+-- Assumes nothing.
+use mathlib.Core.Path.{_≡_}
+use native.Mathlib.Omega.{arith}
+use lib.ListN.{length}
+use Rattle.calls.specs.Cuts.{until}
+use Rattle.calls.proofs.Splitting.{until-below}
+use Rattle.stream.proofs.Lines.{step-replies, step-wait, step-long, cut-room}
+use borrow.Author.Needs.{needs}
+use Rattle.stream.proofs.advance.Statement.{statement}
+use Rattle.stream.proofs.advance.Tie as tie
+use Rattle.stream.proofs.advance.Reads as reads
+use Rattle.stream.proofs.advance.Lts as lts
+use Rattle.calls.proofs.cut.end_of.Reads as end-of-reads
+use Rattle.stream.proofs.replies.Reads as replies-reads
+use Rattle.stream.proofs.skip.Reads as skip-reads
+use Rattle.calls.proofs.reply.Reads as reply-reads
+
+-- no line feed is at hand
+no-feed : (c : tie.Else2) → until 10 (c .before .before .before .before .before .before .before .args .input .now) ≡ length (c .before .before .before .before .before .before .before .args .input .now)
+no-feed c =
+    omega (arith, c .if2 .left, c .before .end-of .ensures, until-below 10 (c .before .before .before .before .before .before .before .args .input .now))
+
+skip-requires : tie.Need-skip-requires
+skip-requires c κs = search needs
+
+returns : tie.Need-returns
+returns c = rw (c .before .if1 .taken) (c .skip .ensures .1 _)
+
+end-of-requires : tie.Need-end-of-requires
+end-of-requires c κs = search needs
+
+replies-requires : tie.Need-replies-requires
+replies-requires c κs = search needs
+
+same-length : tie.Need-same-length
+same-length c = search needs
+
+same-length-2 : tie.Need-same-length-2
+same-length-2 c = search needs
+
+same-length-3 : tie.Need-same-length-3
+same-length-3 c = search needs
+
+returns-2 : tie.Need-returns-2
+returns-2 c =
+    let input = c .before .before .before .before .before .before .before .before .before .before .before .before .before .before .before .before .before .args .input .now in
+    rw (c .before .before .before .before .before .before .before .before .before .before .before .before .if1 .left) (step-replies input _ _ (c .before .before .before .before .before .before .replies .ensures) (omega (arith, c .before .before .before .before .before .before .before .before .before .before .if2 .taken, c .before .before .before .before .before .before .before .before .before .before .before .end-of .ensures)))
+
+returns-3 : tie.Need-returns-3
+returns-3 c =
+    let input = c .before .before .before .before .before .before .before .before .args .input .now in
+    rw (c .before .before .before .if1 .left) (step-wait input _ (no-feed (c .before)) (omega (arith, c .if3 .taken)))
+
+sub-reply : tie.Need-sub-reply
+sub-reply c = omega arith
+
+part-reply-start : tie.Need-part-reply-start
+part-reply-start c = omega arith
+
+part-reply-end : tie.Need-part-reply-end
+part-reply-end c = omega (arith, c .if3 .left)
+
+reply-requires : tie.Need-reply-requires
+reply-requires c κs = cut-room (c .before .before .before .before .before .before .before .before .before .before .before .before .args .input .now) _ _ _ (c .before .before .before .before .before .before .before .before .before .before .before .before .pre)
+
+same-length-4 : tie.Need-same-length-4
+same-length-4 c = c .before .before .before .before .before .before .reply .kept .1 .0
+
+same-length-5 : tie.Need-same-length-5
+same-length-5 c = c .before .before .before .before .before .before .reply .kept .1 .1 .0
+
+same-length-6 : tie.Need-same-length-6
+same-length-6 c = c .before .before .before .before .before .before .reply .kept .1 .1 .1 .0
+
+returns-4 : tie.Need-returns-4
+returns-4 c =
+    let input = c .before .before .before .before .before .before .before .before .before .before .before .before .before .before .before .before .before .before .before .args .input .now in
+    rw (c .before .before .before .before .before .before .before .before .before .before .before .before .before .before .if1 .left)
+    (step-long input _ _ _ (no-feed (c .before .before .before .before .before .before .before .before .before .before .before .before)) (omega (arith, c .before .before .before .before .before .before .before .before .before .before .before .if3 .left)) (c .before .before .before .before .before .before .before .before .before .before .before .before .before .before .before .before .before .before .before .pre .answer) (c .before .before .before .before .before .before .reply .ensures))
+
+pub advance-spec : {M : Type 1} → statement M
+advance-spec =
+    tie.close
+    (tie.spec
+    skip-requires
+    returns
+    end-of-requires
+    replies-requires
+    same-length
+    same-length-2
+    same-length-3
+    returns-2
+    returns-3
+    sub-reply
+    part-reply-start
+    part-reply-end
+    reply-requires
+    same-length-4
+    same-length-5
+    same-length-6
+    returns-4)

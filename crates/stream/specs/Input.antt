@@ -1,0 +1,54 @@
+-- What is written for an input: the replies to its lines, in their order.
+-- Assumes nothing.
+use mathlib.Core.Path.{_≡_}
+use mathlib.Core.Bool.{Bool, true, false}
+use mathlib.Core.List.{List, [], _∷_, _++_}
+use Prim.Native.Nat.{ℕ, _≤_, _<_}
+use lib.ListN.{length, take, drop}
+use Rattle.calls.specs.Cuts.{cutAt, until}
+use Rattle.calls.specs.Lines.{replyTo}
+use Rattle.stream.specs.declared.Progress.{Progress}
+use Rattle.stream.specs.declared.Step.{Step}
+
+abbrev pub repliesTo : List (List ℕ) → List ℕ
+repliesTo [] = []
+repliesTo (l ∷ ls) = replyTo l ++ repliesTo ls
+
+-- the lines end at line feeds (10). The last may lack its own; where it does not, nothing stands after it, and nothing is
+-- written for nothing
+unfoldable pub outputFor : List ℕ → List ℕ
+outputFor input = repliesTo (cutAt 10 input)
+
+-- what is written for an input; where the reply to its first line is already written, only what comes after it
+unfoldable pub outputIn : (skipping : Bool) → List ℕ → List ℕ
+outputIn false input = outputFor input
+outputIn true input = repliesTo (drop 1 (cutAt 10 input))
+
+pub record RoomForLines (bytes out text : List ℕ) : Type 0 where
+  pub parts : 200001 ≤ length bytes
+  pub buffer : 200001 ≤ length out
+  pub answer : 200061 ≤ length text
+
+-- full lines are answered: whatever input is still to come, the replies at hand and what is written for the rest is all that
+-- is written; and where there is a full line at all, one is answered
+pub record Replied (input text : List ℕ) (r : Progress) : Type 0 where
+  pub within : r .from ≤ length input
+  pub room : r .at ≤ length text
+  pub writes : (more : List ℕ) → outputFor (input ++ more) ≡ take (r .at) text ++ outputFor (drop (r .from) input ++ more)
+  pub moves : until 10 input < length input → 0 < r .from
+
+-- the step that every turn of a program makes: whatever input is still to come, what is put and what is written for the rest
+-- is all that is written. Where nothing is passed over, the rest is no full line, and not too long
+pub record Stepped (input : List ℕ) (skipping : Bool) (text : List ℕ) (r : Step) : Type 0 where
+  pub within : r .from ≤ length input
+  pub room : r .at ≤ length text
+  pub writes : (more : List ℕ) → outputIn skipping (input ++ more) ≡ take (r .at) text ++ outputIn (r .skipping) (drop (r .from) input ++ more)
+  pub moves : r .from ≡ 0 → (r .skipping ≡ skipping) × (length input ≤ 200000) × (until 10 input ≡ length input)
+
+abbrev pub Skipped : List ℕ → Step → Type 0
+Skipped input r = (r .at ≡ 0) × ((text : List ℕ) → Stepped input true text r)
+
+-- the input ends: a line without its line feed is answered all the same
+pub record Finished (input text : List ℕ) (at : ℕ) : Type 0 where
+  pub room : at ≤ length text
+  pub writes : until 10 input ≡ length input → outputFor input ≡ take at text
