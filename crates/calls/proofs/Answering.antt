@@ -13,7 +13,7 @@ use lib.Dec.{ltb, eqb}
 use lib.ListN.{length, getD, take, drop}
 use borrow.Author.Tests.{lt-ltb, le-ltb, eq-eqb, ne-eqb}
 use Rattle.lemmas.specs.Lists.{all}
-use Rattle.calls.specs.Ascii.{ascii}
+use Rattle.text.specs.Spelling.{ascii}
 use Rattle.calls.specs.Words.{wordOf}
 use Rattle.calls.specs.Cuts.{until}
 use Rattle.calls.specs.Fields.{fieldsOf, fieldAt, isField}

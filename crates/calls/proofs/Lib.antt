@@ -9,3 +9,4 @@ pub mod Pieces
 pub mod Taking
 pub mod Held
 pub mod Answering
+pub mod Samples

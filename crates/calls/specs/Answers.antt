@@ -9,7 +9,7 @@ use Rattle.spec.specs.Fill.{fillSays, fillWrites}
 use Rattle.spec.specs.Kits.{firstSays, firstWrites, nextSays, nextWrites}
 use Rattle.text.specs.Spelling.{decimal, hexOf}
 use Rattle.text.specs.Putting.{Put}
-use Rattle.calls.specs.Ascii.{ascii}
+use Rattle.text.specs.Spelling.{ascii}
 use Rattle.calls.specs.Fields.{bytesIn}
 use Rattle.calls.specs.declared.word.Word.{Word}
 use Rattle.calls.specs.declared.word.Word.the-variants.{Fill, Test, Show, First, Next, Unknown}

@@ -7,7 +7,7 @@ use lib.Dec.{ltb, eqb}
 use lib.ListN.{length, getD}
 use Rattle.lemmas.specs.Lists.{all}
 use Rattle.lemmas.specs.Lowest.{lowest}
-use Rattle.calls.specs.Ascii.{ascii}
+use Rattle.text.specs.Spelling.{ascii}
 use Rattle.calls.specs.Cuts.{cutAt, pieceFrom}
 use Rattle.calls.specs.Words.{is}
 

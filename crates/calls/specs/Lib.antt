@@ -1,4 +1,3 @@
-pub mod Ascii
 pub mod Words
 pub mod Cuts
 pub mod Fields

@@ -6,7 +6,7 @@ use Prim.Native.Nat.{ℕ, _+_}
 use lib.Dec.{ltb, eqb}
 use lib.ListN.{length, getD, drop}
 use Rattle.lemmas.specs.Lists.{all}
-use Rattle.calls.specs.Ascii.{ascii}
+use Rattle.text.specs.Spelling.{ascii}
 use Rattle.calls.specs.Words.{wordOf}
 use Rattle.calls.specs.Fields.{fieldsOf, isField}
 use Rattle.calls.specs.Answers.{errorFor, answerTo}

@@ -6,7 +6,7 @@ use Prim.Native.Nat.{ℕ}
 use Prim.Native.String.{String}
 use lib.Dec.{eqb}
 use Rattle.lemmas.specs.Same.{sameList}
-use Rattle.calls.specs.Ascii.{ascii}
+use Rattle.text.specs.Spelling.{ascii}
 use Rattle.calls.specs.declared.word.Word.{Word}
 use Rattle.calls.specs.declared.word.Word.the-variants.{Fill, Test, Show, First, Next, Unknown}
 

@@ -12,7 +12,7 @@ use lib.ListN.{length, take, drop, length-take, length-drop}
 use lib.Seq.{take-take, drop-drop, length-take-le}
 use Rattle.text.specs.Putting.{Put}
 use Rattle.text.proofs.Puts.{put-length, put-front}
-use Rattle.calls.specs.Ascii.{ascii}
+use Rattle.text.specs.Spelling.{ascii}
 use Rattle.calls.specs.Cuts.{cutAt, until, pieceFrom}
 use Rattle.calls.specs.Answers.{errorFor}
 use Rattle.calls.specs.Lines.{answerOf, replyTo}
