@@ -1,0 +1,14 @@
+/* Fill written plainly in C, with nothing proved, to measure against. Both take what angatupyi_fill takes and answer alike. */
+#ifndef PLAIN_H
+#define PLAIN_H
+
+#include <stddef.h>
+#include <stdint.h>
+
+typedef void fill_function(const uint8_t *maker, size_t maker_length, const uint8_t *depot, size_t depot_length,
+                           const uint8_t *sheet, size_t sheet_length, uint8_t *out, size_t out_length, uint64_t answer[3]);
+
+fill_function fill_by_sweeps; /* passes over all records until one changes nothing */
+fill_function fill_by_queue;  /* the records of each box listed; only those of a box just settled are looked at */
+
+#endif
