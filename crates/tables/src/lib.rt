@@ -1,0 +1,47 @@
+// The accepted tables. Once the checks have passed, the two tables and the number of boxes are carried together through the rest of
+// an operation, so that they are not checked again against other bytes. A function that takes, makes or hands on such a struct is
+// proved by a walk of its code by hand, so there are few, and each leaves the work to a function on slices.
+ghost use mathlib.Core.Path.{_≡_};
+ghost use Prim.Native.Nat.{_<_};
+ghost use Rattle.spec.specs.Records.{recordAt, recordCount};
+ghost use Rattle.spec.proofs.Accepted.{Accepted};
+ghost use Rattle.accept.specs.Record.{asRec};
+ghost use Rattle.tables.specs.Carried.{Carried};
+use accept::record::Record;
+use accept::record::record_at;
+
+pub struct Tables<'a> {
+    pub maker: &'a [u8],
+    pub depot: &'a [u8],
+    pub n: usize,
+}
+
+// Made only of tables that have passed the checks.
+pub fn carry<'a>(maker: &'a [u8], depot: &'a [u8], n: usize) -> Tables<'a>
+    requires { ⌜ Accepted n (now maker) (now depot) ⌝ }
+    ensures { λ r. ⌜ (r .maker ≡ maker .entry) × (r .depot ≡ depot .entry) × (r .n ≡ n) ⌝ }
+{
+    Tables { maker, depot, n }
+}
+
+// How many records both tables hold together.
+fn count_of<'a>(maker: &'a [u8], depot: &'a [u8]) -> usize
+    ensures { λ r. ⌜ r ≡ recordCount (now (maker .entry)) (now (depot .entry)) ⌝ }
+{
+    maker.len() / 8 + depot.len() / 8
+}
+
+pub fn count<'a>(t: Tables<'a>) -> usize
+    ensures { λ r. ⌜ r ≡ recordCount (now (t .entry .maker)) (now (t .entry .depot)) ⌝ }
+{
+    count_of(t.maker, t.depot)
+}
+
+// A record read by value.
+pub fn record<'a>(t: Tables<'a>, number: usize) -> Record
+    requires { ⌜ Carried t ⌝ }
+    requires { ⌜ number < recordCount (now (t .maker)) (now (t .depot)) ⌝ }
+    ensures { λ r. ⌜ asRec r ≡ recordAt (now (t .entry .maker)) (now (t .entry .depot)) number ⌝ }
+{
+    record_at(t.maker, t.depot, number)
+}
