@@ -34,6 +34,6 @@ module _ (maker depot l : List ℕ) where
     test-refused-list why e = refusal-said why (listCheck l ∷ []) _ e ∙ test-passed-tables
 
     pub test-passed : judge (listCheck l ∷ []) passed ≡ passed →
-        tested (recordCount maker depot) (firstBroken maker depot l) ≡ testSays maker depot l
+        {said : Said} → said ≡ tested (recordCount maker depot) (firstBroken maker depot l) → said ≡ testSays maker depot l
     unfolding after-tables
-    test-passed e = sym (judge-passed (listCheck l ∷ []) _ e) ∙ test-passed-tables
+    test-passed e answer = answer ∙ sym (judge-passed (listCheck l ∷ []) _ e) ∙ test-passed-tables

@@ -1,7 +1,10 @@
 // Test and Show: whether a full list fits every rule by its truth table, the first record that it breaks, and that record's bytes.
 ghost use mathlib.Core.Path.{_≡_};
 ghost use Rattle.spec.specs.Kinds.{kindOf, meaning};
-ghost use Rattle.spec.specs.Fits.{isIn, breaks, firstBroken, testSays, showsPart};
+ghost use Rattle.spec.specs.Records.{recordCount};
+ghost use Rattle.spec.specs.Fits.{isIn, breaks, firstBroken, tested as judged, testSays, showsPart};
+ghost use Rattle.spec.proofs.Accepted.{Accepted};
+ghost use Rattle.tables.specs.Carried.{Carried};
 ghost use Rattle.accept.specs.Record.{asRec, WholeRecords};
 ghost use Rattle.fits.specs.Answer.{atPlaces, testedSays, Shows};
 use accept::form::Form;
@@ -10,6 +13,8 @@ use accept::form::check_list;
 use accept::form::check_tables;
 use accept::record::Record;
 use accept::record::record_at;
+use tables::Tables;
+use tables::carry;
 
 pub enum Tested {
     Fits,
@@ -62,6 +67,33 @@ pub fn first_broken<'a>(maker: &'a [u8], depot: &'a [u8], list: &[u8]) -> usize
     i
 }
 
+// What is left to say once the checks have passed.
+fn test_accepted<'a>(maker: &'a [u8], depot: &'a [u8], list: &[u8]) -> Tested
+    requires { ⌜ WholeRecords (now maker) (now depot) ⌝ }
+    ensures { λ r. ⌜ testedSays r ≡ judged (recordCount (now (maker .entry)) (now (depot .entry))) (firstBroken (now (maker .entry)) (now (depot .entry)) (now (list .entry))) ⌝ }
+{
+    let i = first_broken(maker, depot, list);
+    if i < maker.len() / 8 + depot.len() / 8 {
+        return Tested::Broken(i);
+    }
+    Tested::Fits
+}
+
+// The same over tables that are carried.
+fn test_tables<'a>(t: Tables<'a>, list: &[u8]) -> Tested
+    requires { ⌜ Carried t ⌝ }
+    ensures { λ r. ⌜ testedSays r ≡ judged (recordCount (now (t .entry .maker)) (now (t .entry .depot))) (firstBroken (now (t .entry .maker)) (now (t .entry .depot)) (now (list .entry))) ⌝ }
+{
+    test_accepted(t.maker, t.depot, list)
+}
+
+fn test_carried<'a>(maker: &'a [u8], depot: &'a [u8], n: usize, list: &[u8]) -> Tested
+    requires { ⌜ Accepted n (now maker) (now depot) ⌝ }
+    ensures { λ r. ⌜ testedSays r ≡ judged (recordCount (now (maker .entry)) (now (depot .entry))) (firstBroken (now (maker .entry)) (now (depot .entry)) (now (list .entry))) ⌝ }
+{
+    test_tables(carry(maker, depot, n), list)
+}
+
 pub fn test<'a>(maker: &'a [u8], depot: &'a [u8], list: &[u8]) -> Tested
     ensures { λ r. ⌜ testedSays r ≡ testSays (now (maker .entry)) (now (depot .entry)) (now (list .entry)) ⌝ }
 {
@@ -73,11 +105,7 @@ pub fn test<'a>(maker: &'a [u8], depot: &'a [u8], list: &[u8]) -> Tested
     if let Form::Refused(why) = bytes {
         return Tested::Refused(why);
     }
-    let i = first_broken(maker, depot, list);
-    if i < maker.len() / 8 + depot.len() / 8 {
-        return Tested::Broken(i);
-    }
-    Tested::Fits
+    test_carried(maker, depot, list.len(), list)
 }
 
 // The empty part at the start of the maker's table stands for every answer of Test that names no record.

@@ -1,13 +1,8 @@
 -- `fits::test` meets its contract: the checks come in their order, and then the first broken record.
 -- Assumes nothing.
 use mathlib.Core.Path.{_≡_, sym, _∙_, ap}
-use Prim.Native.Nat.{ℕ}
-use borrow.Author.Tests.{lt-ltb, le-ltb}
-use lib.Dec.{ltb}
 use lib.ListN.{length}
-use Rattle.spec.specs.Records.{recordCount}
-use Rattle.spec.specs.Refusals.{passed, judge, tableChecks, listCheck}
-use Rattle.spec.specs.Fits.{firstBroken, tested, testSays}
+use Rattle.spec.specs.Refusals.{passed, judge, tableChecks}
 use Rattle.spec.proofs.Accepted.{tables-accepted}
 use Rattle.accept.specs.Form.{formSays}
 use Rattle.fits.proofs.Says.{test-refused-tables, test-refused-list, test-passed}
@@ -49,30 +44,15 @@ returns-2 c =
 enum-told-2 : tie.Need-enum-told-2
 enum-told-2 c = search needs
 
-first-broken-requires : tie.Need-first-broken-requires
-first-broken-requires c κs =
-    let accepted = tables-accepted _ _ _ (tables-pass (c .before .before .before)) in
-    record { makers = accepted .makers; depots = accepted .depots }
-
-add-if1 : tie.Need-add-if1
-add-if1 c = search needs
+test-carried-requires : tie.Need-test-carried-requires
+test-carried-requires c κs = tables-accepted _ _ _ (tables-pass (c .before .before .before))
 
 -- the list has passed too
-both-pass : (c : tie.After-enum-told2) →
-    tested (recordCount (c .before .before .before .before .before .before .before .before .before .args .maker .now) (c .before .before .before .before .before .before .before .before .before .args .depot .now)) (firstBroken (c .before .before .before .before .before .before .before .before .before .args .maker .now) (c .before .before .before .before .before .before .before .before .before .args .depot .now) (c .before .before .before .before .before .before .before .before .before .args .list .now))
-    ≡ testSays (c .before .before .before .before .before .before .before .before .before .args .maker .now) (c .before .before .before .before .before .before .before .before .before .args .depot .now) (c .before .before .before .before .before .before .before .before .before .args .list .now)
-both-pass c =
-    let a = c .before .before .before .before .before .before .before .before .before .args in
-    test-passed (a .maker .now) (a .depot .now) (a .list .now) (tables-pass (c .before .before .before))
-    (sym (ap formSays (sym (c .enum-told2 .given .1)) ∙ c .before .before .check-list .ensures))
-
 returns-3 : tie.Need-returns-3
-unfolding recordCount
-returns-3 c = simp (← (c .before .first-broken .ensures), lt-ltb _ _ (c .if1 .taken)) at (both-pass (c .before .before))
-
-returns-4 : tie.Need-returns-4
-unfolding recordCount
-returns-4 c = simp (← (c .before .first-broken .ensures), le-ltb _ _ (c .if1 .left)) at (both-pass (c .before .before))
+returns-3 c =
+    let a = c .before .before .before .before .before .before .before .before .before .before .args in
+    test-passed (a .maker .now) (a .depot .now) (a .list .now) (tables-pass (c .before .before .before .before))
+    (sym (ap formSays (sym (c .before .enum-told2 .given .1)) ∙ c .before .before .before .check-list .ensures)) (c .test-carried .ensures)
 
 pub test-spec : {M : Type 1} → statement M
 test-spec =
@@ -86,7 +66,5 @@ test-spec =
     enum-known-bytes
     returns-2
     enum-told-2
-    first-broken-requires
-    add-if1
-    returns-3
-    returns-4)
+    test-carried-requires
+    returns-3)
