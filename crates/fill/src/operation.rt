@@ -69,6 +69,7 @@ fn fill_tables<'a>(t: Tables<'a>, sheet: &[u8], out: &mut [u8]) -> Filled
     fill_accepted(t.maker, t.depot, t.n, sheet, out)
 }
 
+// Puts the accepted tables and the number of boxes together. They are carried from here on.
 fn fill_carried<'a>(
     maker: &'a [u8],
     depot: &'a [u8],

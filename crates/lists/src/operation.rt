@@ -48,6 +48,7 @@ fn choose_tables<'a>(t: Tables<'a>, sheet: &[u8], given: &[u8], after: bool, out
     choose_accepted(t.maker, t.depot, t.n, sheet, given, after, out)
 }
 
+// Puts the accepted tables and the number of boxes together. They are carried from here on.
 fn choose_carried<'a>(
     maker: &'a [u8],
     depot: &'a [u8],

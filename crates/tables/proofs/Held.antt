@@ -1,7 +1,7 @@
 -- What a walk by hand needs of the tables that are carried: how they are made by a call of `carry`, and how they are taken apart.
 --     Row, Desc, Law   the struct's type at a lifetime, its description and its laws
 --     Slice, Number    what a table that is lent for the lifetime owns, and what n owns
---     held-apart       what the struct owns gives what its fields own
+--     held-apart       what the struct owns gives what its fields own;   held-slices    what the two tables own, where n is not asked for
 --     held-entry, held-again    for a function that makes the struct: what goes to `carry`, and what goes on beside the struct
 --     held-typed       a machine value of the struct has its MIR type, also in a local, where MIR erases the lifetime
 --     carried          the struct that is made of two tables and n;   Carry    the contract of `carry`
@@ -72,6 +72,12 @@ module _ {M : Type 1} (𝓤 : URA M) (H : Heap 𝓤) (A : Atoms 𝓤) (W : Given
       learn ! (λ _. fsplit ! $ move ! (1 ∷ []) $ fsplit ! $ move ! (1 ∷ []) $ fsplit ! $
       -- [what n owns; true; what the depot's owns; what the maker's owns; O]
       move ! (1 ∷ []) $ drop ! $ move ! (0 ∷ 3 ∷ []) $ fjoin ! $ move ! (1 ∷ 0 ∷ []) $ fjoin ! $ move ! (1 ∷ 0 ∷ []) $ fjoin ! $ done !)
+
+  pub held-slices : (α : NamedLft) (t : Tables) (O : Fml) → ent 𝓤 (sem 𝓤 H A (fsep (Row α .own t (T′.lowered t ∷ [])) O)) (sem 𝓤 H A (fsep (Slice (α .lft) (t .maker)) (fsep (Slice (α .lft) (t .depot)) O)))
+  held-slices α t O =
+      qed W (‵ (fsep (Row α .own t (T′.lowered t ∷ [])) O) ∷ []) ∵
+      use1 W (‵ (fsep (Slice (α .lft) (t .maker)) (fsep (Slice (α .lft) (t .depot)) (fsep (Number (t .n)) O)))) (held-apart α t O) $
+      fsplit ! $ move ! (1 ∷ []) $ fsplit ! $ move ! (1 ∷ []) $ fsplit ! $ drop ! $ move ! (1 ∷ 0 ∷ []) $ fjoin ! $ move ! (1 ∷ 0 ∷ []) $ fjoin ! $ done !
 
   pub held-typed : (α : NamedLft) (t : Tables) (u : Val) → Is (Row α) t (u ∷ []) → Holds (hasTy (T′.mir erased) u) × WT u
   held-typed α t u is = LL.lawful (Desc (record { mir = erased; lft = α .lft })) (Law (record { mir = erased; lft = α .lft })) 𝓤 H A W .typed t _ is .0

@@ -2,13 +2,8 @@
 // an operation, so that they are not checked again against other bytes. A function that takes, makes or hands on such a struct is
 // proved by a walk of its code by hand, so there are few, and each leaves the work to a function on slices.
 ghost use mathlib.Core.Path.{_≡_};
-ghost use Prim.Native.Nat.{_<_};
-ghost use Rattle.spec.specs.Records.{recordAt, recordCount};
+ghost use Rattle.spec.specs.Records.{recordCount};
 ghost use Rattle.spec.proofs.Accepted.{Accepted};
-ghost use Rattle.accept.specs.Record.{asRec};
-ghost use Rattle.tables.specs.Carried.{Carried};
-use accept::record::Record;
-use accept::record::record_at;
 
 pub struct Tables<'a> {
     pub maker: &'a [u8],
@@ -35,13 +30,4 @@ pub fn count<'a>(t: Tables<'a>) -> usize
     ensures { λ r. ⌜ r ≡ recordCount (now (t .entry .maker)) (now (t .entry .depot)) ⌝ }
 {
     count_of(t.maker, t.depot)
-}
-
-// A record read by value.
-pub fn record<'a>(t: Tables<'a>, number: usize) -> Record
-    requires { ⌜ Carried t ⌝ }
-    requires { ⌜ number < recordCount (now (t .maker)) (now (t .depot)) ⌝ }
-    ensures { λ r. ⌜ asRec r ≡ recordAt (now (t .entry .maker)) (now (t .entry .depot)) number ⌝ }
-{
-    record_at(t.maker, t.depot, number)
 }

@@ -1,24 +1,19 @@
 -- `fits::test_accepted` meets its contract: the first broken record is named, if there is one.
 -- Assumes nothing.
+use native.Mathlib.Omega.{arith}
+use Rattle.fits.proofs.Says.{judged-broken, judged-fits}
 use borrow.Author.Needs.{needs}
-use borrow.Author.Tests.{lt-ltb, le-ltb}
-use Rattle.spec.specs.Records.{recordCount}
 use Rattle.fits.proofs.test_accepted.Statement.{statement}
 use Rattle.fits.proofs.test_accepted.Tie as tie
 
 first-broken-requires : tie.Need-first-broken-requires
 first-broken-requires c κs = search needs
 
-add-if1 : tie.Need-add-if1
-add-if1 c = search needs
-
 returns : tie.Need-returns
-unfolding recordCount
-returns c = simp (← (c .before .first-broken .ensures), lt-ltb _ _ (c .if1 .taken))
+returns c = judged-broken _ _ _ _ (c .before .first-broken .ensures) (omega arith)
 
 returns-2 : tie.Need-returns-2
-unfolding recordCount
-returns-2 c = simp (← (c .before .first-broken .ensures), le-ltb _ _ (c .if1 .left))
+returns-2 c = judged-fits _ _ _ _ (c .before .first-broken .ensures) (omega arith)
 
 pub test-accepted-spec : {M : Type 1} → statement M
-test-accepted-spec = tie.close (tie.spec first-broken-requires add-if1 returns returns-2)
+test-accepted-spec = tie.close (tie.spec first-broken-requires returns returns-2)

@@ -36,15 +36,13 @@ use denote.Triple.Table.{entered, cited}
 use denote.Triple.Walked.{says, needs, Stays, stay-dropped, walkOf, goes-dropped, ends-at, walked, walk-meets}
 use denote.Exit.{yes}
 use denote.Triple.Clauses.{ensured, lasts}
-use Rattle.spec.specs.Records.{recordCount}
-use Rattle.spec.specs.Fits.{firstBroken, tested}
 use Rattle.spec.proofs.Accepted.{Accepted}
 use Rattle.tables.proofs.Walks.{answers, carries, silents, silents-in}
 use Rattle.tables.proofs.Held.{Row, held-again, carried, Carry}
 use Rattle.tables.proofs.carry.Symbol as carry-def
 use Rattle.tables.proofs.carry.Symbol.{name as #carry}
 use Rattle.tables.proofs.carry.Met as carry-thm
-use Rattle.fits.specs.Answer.{testedSays}
+use Rattle.fits.specs.Answer.{testedSays, judged}
 use Rattle.fits.specs.declared.Tested.{Tested}
 use Rattle.fits.proofs.Tested as S
 use Rattle.fits.proofs.Tested.Laws as S′
@@ -85,7 +83,7 @@ module _ {M : Type 1} (𝓤 : URA M) (H : Heap 𝓤) (A : Atoms 𝓤) (W : Given
   O = owns (ShrSlice (named 1) (κs .1 .0) u8 ∷ []) (l, tt) (slice-vals l, tt)
 
   abbrev says-it : Tested → Type 0
-  says-it r = testedSays r ≡ tested (recordCount (now m) (now d)) (firstBroken (now m) (now d) (now l))
+  says-it r = testedSays r ≡ judged (now m) (now d) (now l)
 
   abbrev Post : Val → SProp 𝓤
   Post = walkOf 𝓤 H A this.ended stayed (this.clauses 𝓤 H A mem run) .post ((κs, qs, tt, a, at), tt)

@@ -17,7 +17,7 @@ use ghost.Atoms.{Atoms, sem}
 use contract.Lifetimes.{Lfts, Shares}
 use contract.Monad.{Fun, fact}
 use contract.Running.{givenOf, tables, tablesOf}
-use types.Kit.{Given, ‵, raw, ⋆, _$_, _∵_, !, qed, by, move, drop, use1, join, fsplit, fjoin, suffices, frame, done}
+use types.Kit.{Given, ‵, raw, ⋆, _$_, _∵_, !, qed, by, move, use1, join, suffices, frame, done}
 use types.Part.{whole, sub, look-in}
 use types.Run.{look, init, forget, stop, fld, from, load, of-opd, and-then, no-more, assigns, land, returns, enter, alloc1, alloc0, params1, pass1, pass0, free1, free0}
 use sound.WpLaws.{FmC, fmOf, WpFn-mono}
@@ -41,7 +41,7 @@ use Rattle.spec.specs.Records.{recordCount}
 use Rattle.tables.specs.declared.Tables.{Tables}
 use Rattle.tables.proofs.Tables.Laws as T′
 use Rattle.tables.proofs.Walks.{answers, silents, silents-in}
-use Rattle.tables.proofs.Held.{Row, Desc, Law, Slice, Number, held-apart}
+use Rattle.tables.proofs.Held.{Row, Desc, Law, Slice, held-slices}
 use Rattle.tables.proofs.count_of as callee
 use Rattle.tables.proofs.count_of.Symbol as callee-def
 use Rattle.tables.proofs.count_of.Symbol.{name as #callee}
@@ -90,9 +90,7 @@ module _ {M : Type 1} (𝓤 : URA M) (H : Heap 𝓤) (A : Atoms 𝓤) (W : Given
   apart : ent 𝓤 (onEntry 𝓤 H A this.signature κs qs a at) (Callee 𝓤 H A mem run .pre to)
   apart =
       qed W (raw Tokens ∷ ‵ (owns (typesAt (this.signature .params) κs) a at) ∷ []) ∵ move ! (1 ∷ []) $
-      use1 W (‵ (fsep (Slice (κs .0) (t .maker)) (fsep (Slice (κs .0) (t .depot)) (fsep (Number (t .n)) ftrue)))) (held-apart 𝓤 H A W α t ftrue) $
-      -- n is not asked for
-      fsplit ! $ move ! (1 ∷ []) $ fsplit ! $ move ! (1 ∷ []) $ fsplit ! $ drop ! $ move ! (1 ∷ 0 ∷ []) $ fjoin ! $ move ! (1 ∷ 0 ∷ []) $ fjoin ! $ move ! (1 ∷ 0 ∷ []) $ join ! $ frame ! $ done !
+      use1 W (‵ (fsep (Slice (κs .0) (t .maker)) (fsep (Slice (κs .0) (t .depot)) ftrue))) (held-slices 𝓤 H A W α t ftrue) $ move ! (1 ∷ 0 ∷ []) $ join ! $ frame ! $ done !
 
   -- what the callee ensures of its result
   abbrev Ens : ℕ → SProp 𝓤
