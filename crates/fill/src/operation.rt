@@ -1,5 +1,4 @@
 // The public operation Fill: the checks, the engine, and what is written.
-ghost use mathlib.Core.Path.{_≡_};
 ghost use Rattle.fill.specs.Answer.{InForm, Fillable, IsFilled, FillDoes};
 use crate::engine::run;
 use accept::form::Form;
@@ -33,8 +32,9 @@ fn hand_out<'a>(
     ensures { λ r. ⌜ FillDoes (now (maker .entry)) (now (depot .entry)) (now (sheet .entry)) (now (out .entry)) r (now (out .exit)) ⌝ }
 {
     if count_open(filled) == 0 {
-        let i = first_broken(maker, depot, filled);
-        if i < maker.len() / 8 + depot.len() / 8 {
+        let count = maker.len() / 8 + depot.len() / 8;
+        let i = first_broken(maker, depot, count, filled);
+        if i < count {
             return Filled::Broken(i);
         }
     }

@@ -4,7 +4,7 @@ ghost use Rattle.spec.specs.Kinds.{kindOf, meaning};
 ghost use Rattle.spec.specs.Fits.{isIn, breaks, firstBroken, testSays, partFor, showsPart};
 ghost use Rattle.spec.proofs.Accepted.{Accepted};
 ghost use Rattle.tables.specs.Carried.{Carried};
-ghost use Rattle.accept.specs.Record.{asRec, WholeRecords};
+ghost use Rattle.accept.specs.Record.{asRec};
 ghost use Rattle.fits.specs.Answer.{atPlaces, testedSays, Counted, judged, Shows};
 use accept::form::Form;
 use accept::form::Refusal;
@@ -50,12 +50,11 @@ fn is_broken(list: &[u8], q: Record) -> bool
     !truth(q.kind, is_in(list, q.x), is_in(list, q.y), is_in(list, q.z))
 }
 
-// The lowest broken record, or the number of records where none is broken.
-pub fn first_broken<'a>(maker: &'a [u8], depot: &'a [u8], list: &[u8]) -> usize
-    requires { ⌜ WholeRecords (now maker) (now depot) ⌝ }
+// The lowest broken record, or the number of records, `count`, where none is broken.
+pub fn first_broken<'a>(maker: &'a [u8], depot: &'a [u8], count: usize, list: &[u8]) -> usize
+    requires { ⌜ Counted (now maker) (now depot) count ⌝ }
     ensures { λ r. ⌜ r ≡ firstBroken (now (maker .entry)) (now (depot .entry)) (now (list .entry)) ⌝ }
 {
-    let count = maker.len() / 8 + depot.len() / 8;
     let mut i = 0;
     while i < count {
         if is_broken(list, record_at(maker, depot, i)) {
@@ -71,7 +70,7 @@ fn test_accepted<'a>(maker: &'a [u8], depot: &'a [u8], count: usize, list: &[u8]
     requires { ⌜ Counted (now maker) (now depot) count ⌝ }
     ensures { λ r. ⌜ testedSays r ≡ judged (now (maker .entry)) (now (depot .entry)) (now (list .entry)) ⌝ }
 {
-    let i = first_broken(maker, depot, list);
+    let i = first_broken(maker, depot, count, list);
     if i < count {
         return Tested::Broken(i);
     }
@@ -110,7 +109,7 @@ fn show_accepted<'a>(maker: &'a [u8], depot: &'a [u8], count: usize, list: &[u8]
     requires { ⌜ Counted (now maker) (now depot) count ⌝ }
     ensures { λ r. ⌜ Shows (maker .entry) (depot .entry) (partFor (now (maker .entry)) (judged (now (maker .entry)) (now (depot .entry)) (now (list .entry)))) r ⌝ }
 {
-    let i = first_broken(maker, depot, list);
+    let i = first_broken(maker, depot, count, list);
     if i < count {
         let at = 8 * i;
         if at < maker.len() {

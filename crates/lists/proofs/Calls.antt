@@ -1,15 +1,15 @@
 -- What First and Next do after their checks, and what a search is handed for them.
 -- Assumes nothing.
-use mathlib.Core.Path.{_≡_, refl, sym, subst, ap, _∙_}
+use mathlib.Core.Path.{_≡_, refl, sym, subst, _∙_}
 use mathlib.Core.Bool.{Bool, true, false, true≢false}
 use mathlib.Core.List.{List, [], _∷_}
-use Prim.Native.Nat.{ℕ, _≤_, _<_}
+use Prim.Native.Nat.{ℕ, _≤_}
 use native.Mathlib.Omega.{arith}
 use borrow.Author.Tests.{eqb-true, not-false}
-use lib.ListN.{length, getD, take, length-take}
+use lib.ListN.{length}
 use Rattle.lemmas.proofs.Reading.{getD-each}
 use Rattle.spec.specs.Records.{rulesIn}
-use Rattle.spec.specs.Refusals.{Said, refused, passed, list, judge, tableChecks, sheetCheck, givenCheck, outCheck, listCheck, sheetChecks, orderChecks, nextChecks}
+use Rattle.spec.specs.Refusals.{passed, judge, tableChecks, sheetCheck, givenCheck, outCheck, listCheck, sheetChecks, orderChecks, nextChecks}
 use Rattle.spec.proofs.Judge.{judge-passes}
 use Rattle.spec.proofs.Accepted.{Accepted, tables-accepted, sheet-accepted}
 use Rattle.theory.specs.Steps.{Loaded, IsSheet}
@@ -23,7 +23,7 @@ use Rattle.accept.specs.declared.form.Refusal.{Refusal}
 use Rattle.accept.specs.Form.{refusalSays}
 use Rattle.accept.proofs.Refused.{numbered}
 use Rattle.lists.specs.Ready.{Ready}
-use Rattle.lists.specs.Answer.{listedSays, FirstDoes, NextDoes, InCall, Chosen}
+use Rattle.lists.specs.Answer.{FirstDoes, NextDoes, InCall, Chosen}
 use Rattle.lists.specs.declared.operation.Listed.{Listed}
 use Rattle.lists.specs.declared.operation.Listed.the-variants as listed
 
