@@ -39,6 +39,7 @@ use denote.Triple.Spec.{tripleOf}
 use denote.Triple.Clauses.{ensured, lasts}
 use denote.Triple.Walked.{says}
 use Rattle.spec.proofs.Accepted.{Accepted}
+use Rattle.tables.specs.Carried.{MadeOf}
 use Rattle.tables.specs.declared.Tables.{Tables}
 use Rattle.tables.proofs.Tables as T
 use Rattle.tables.proofs.Tables.Laws as T′
@@ -114,15 +115,15 @@ module _ {M : Type 1} (𝓤 : URA M) (H : Heap 𝓤) (A : Atoms 𝓤) (mem : Mem
         qed W (‵ (flft κ q) ∷ ‵ (Slice κ m) ∷ ‵ (Slice κ d) ∷ []) ∵ says ! ok $
         nothing ! $ move ! (1 ∷ 0 ∷ []) $ fjoin ! $ frame ! $ nothing ! $ owned ! usize (Is usize) (uint-makes 𝓤 H A W w64) n _ (refl, fits) $ fjoin ! $ move ! (2 ∷ 0 ∷ []) $ fjoin ! $ move ! (1 ∷ 0 ∷ []) $ fjoin ! $ done !
 
-    said : (r : Tables) → ent 𝓤 (ensured 𝓤 H A carry.ended (carry.clauses 𝓤 H A mem run) (κ, tt) (m, (d, (n, tt))) tt r) (fact 𝓤 ((r .maker ≡ m) × (r .depot ≡ d) × (r .n ≡ n)))
-    said r = exE 𝓤 _ (λ ws. snd∗ 𝓤 (sem 𝓤 H A (lasts carry.ended (κ, tt) (m, (d, (n, tt))) ws)) (fact 𝓤 ((r .maker ≡ m) × (r .depot ≡ d) × (r .n ≡ n))))
+    said : (r : Tables) → ent 𝓤 (ensured 𝓤 H A carry.ended (carry.clauses 𝓤 H A mem run) (κ, tt) (m, (d, (n, tt))) tt r) (fact 𝓤 (MadeOf m d n r))
+    said r = exE 𝓤 _ (λ ws. snd∗ 𝓤 (sem 𝓤 H A (lasts carry.ended (κ, tt) (m, (d, (n, tt))) ws)) (fact 𝓤 (MadeOf m d n r)))
 
     gives : (u : Val) → ent 𝓤 (Carry .post to u) (Made u)
     gives u =
         qed W (raw (Carry .post to u) ∷ []) ∵ updating ! $
         use1 W (later (some (λ (r : Tables). ((‵ (flft κ q) ⊛ ‵ ftrue) ⊛ ‵ (Row α .own r (u ∷ []))) ⊛ raw (ensured 𝓤 H A carry.ended (carry.clauses 𝓤 H A mem run) (κ, tt) (m, (d, (n, tt))) tt r)))) (id⊢ 𝓤 _) $ await ! tt $ pick ! (λ r.
-        split ! $ move ! (1 ∷ []) $ use1 W (raw (fact 𝓤 ((r .maker ≡ m) × (r .depot ≡ d) × (r .n ≡ n)))) (said r) $ heard ! ((r .maker ≡ m) × (r .depot ≡ d) × (r .n ≡ n)) (λ e. split ! $ move ! (1 ∷ []) $
-        rewrite ! 0 (λ (t : Tables). ‵ (Row α .own t (u ∷ []))) (λ i. record { maker = e .0 i; depot = e .1 i; n = e .2 i }) refl $ at-once ! $ frame ! $ split ! $ move ! (1 ∷ []) $ drop ! $ done !))
+        split ! $ move ! (1 ∷ []) $ use1 W (raw (fact 𝓤 (MadeOf m d n r))) (said r) $ heard ! (MadeOf m d n r) (λ e. split ! $ move ! (1 ∷ []) $
+        rewrite ! 0 (λ (t : Tables). ‵ (Row α .own t (u ∷ []))) (λ i. record { maker = e .makers i; depot = e .depots i; n = e .boxes i }) refl $ at-once ! $ frame ! $ split ! $ move ! (1 ∷ []) $ drop ! $ done !))
 
     pub carry-gives : (C : Calls 𝓤 H) → FmC 𝓤 H (W .laws) C → Triple 𝓤 (C #tables·carry) Carry → n < 2 ^ 64 → Accepted n (now m) (now d)
         → ent 𝓤 (sep 𝓤 (A .lft κ q) (sep 𝓤 (sem 𝓤 H A (Slice κ m)) (sem 𝓤 H A (Slice κ d)))) (C #tables·carry (Carry .args to) Made)

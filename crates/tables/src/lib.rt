@@ -4,6 +4,7 @@
 ghost use mathlib.Core.Path.{_≡_};
 ghost use Rattle.spec.specs.Records.{recordCount};
 ghost use Rattle.spec.proofs.Accepted.{Accepted};
+ghost use Rattle.tables.specs.Carried.{MadeOf};
 
 pub struct Tables<'a> {
     pub maker: &'a [u8],
@@ -14,7 +15,7 @@ pub struct Tables<'a> {
 // Made only of tables that have passed the checks.
 pub fn carry<'a>(maker: &'a [u8], depot: &'a [u8], n: usize) -> Tables<'a>
     requires { ⌜ Accepted n (now maker) (now depot) ⌝ }
-    ensures { λ r. ⌜ (r .maker ≡ maker .entry) × (r .depot ≡ depot .entry) × (r .n ≡ n) ⌝ }
+    ensures { λ r. ⌜ MadeOf (maker .entry) (depot .entry) n r ⌝ }
 {
     Tables { maker, depot, n }
 }

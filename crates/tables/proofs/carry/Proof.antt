@@ -69,7 +69,7 @@ module _ {M : Type 1} (𝓤 : URA M) (H : Heap 𝓤) (A : Atoms 𝓤) (W : Given
   exits : ent 𝓤 (onEntry 𝓤 H A carry.signature (κ, tt) (q, tt) (m, (d, (n, tt))) at) (Post (T′.lowered made))
   exits =
       qed W ((‵ (flft κ q) ⊛ ‵ ftrue) ∷ ‵ (owns (ShrSlice (named 0) κ u8 ∷ ShrSlice (named 0) κ u8 ∷ usize ∷ []) (m, (d, (n, tt))) at) ∷ []) ∵
-      suffices ! _ (ends-at 𝓤 H A carry.ended stayed (carry.clauses 𝓤 H A mem run) W (((κ, tt), (q, tt), tt, (m, (d, (n, tt))), at), tt) (T′.lowered made) made (tt, (tt, (tt, tt))) (tt, (tt, (tt, tt)))) $ says ! (refl, refl, refl) $
+      suffices ! _ (ends-at 𝓤 H A carry.ended stayed (carry.clauses 𝓤 H A mem run) W (((κ, tt), (q, tt), tt, (m, (d, (n, tt))), at), tt) (T′.lowered made) made (tt, (tt, (tt, tt))) (tt, (tt, (tt, tt)))) $ says ! (record { makers = refl; depots = refl; boxes = refl }) $
       frame ! $ nothing ! $ nothing ! $ fjoin ! $ nothing ! $ fjoin ! $ nothing ! $ fjoin ! $ frame ! $ by ! (own-shut 𝓤 H A W (T.the-type α) (T′.the-laws α) (m, (d, (n, tt))))
 
   module _ (C : Calls 𝓤 H) (Λ : Loops 𝓤 H) where
