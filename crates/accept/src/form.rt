@@ -1,12 +1,12 @@
 // The checks of form: refusals 1 to 6, in the order of the paper's table. The first that applies is given.
 ghost use mathlib.Core.Path.{_≡_};
-ghost use Prim.Native.Nat.{ℕ};
 ghost use lib.ListN.{length, getD};
 ghost use lib.Dec.{ltb};
 ghost use mathlib.Core.List.{_∷_, []};
 ghost use Rattle.lemmas.specs.Lowest.{lowest};
 ghost use Rattle.spec.specs.Records.{recordAt, recordCount, bad};
 ghost use Rattle.spec.specs.Refusals.{passed, judge, tableChecks, sheetCheck, givenCheck, outCheck, listCheck, sheetChecks, orderChecks, nextChecks};
+ghost use Rattle.spec.specs.Fits.{testChecks};
 ghost use Rattle.accept.specs.Record.{WholeRecords};
 ghost use Rattle.accept.specs.Form.{formSays};
 use crate::record::is_bad;
@@ -61,7 +61,7 @@ fn first_above(s: &[u8], top: u8) -> usize
 }
 
 // 1, 2, 3
-pub fn check_tables<'a>(maker: &'a [u8], depot: &'a [u8], n: usize) -> Form
+fn check_tables<'a>(maker: &'a [u8], depot: &'a [u8], n: usize) -> Form
     ensures { λ r. ⌜ formSays r ≡ judge (tableChecks n (now (maker .entry)) (now (depot .entry))) passed ⌝ }
 {
     if 256 < n {
@@ -85,7 +85,7 @@ pub fn check_tables<'a>(maker: &'a [u8], depot: &'a [u8], n: usize) -> Form
 }
 
 // 4
-pub fn check_sheet(sheet: &[u8]) -> Form
+fn check_sheet(sheet: &[u8]) -> Form
     ensures { λ r. ⌜ formSays r ≡ judge (sheetCheck (now (sheet .entry)) ∷ []) passed ⌝ }
 {
     let i = first_above(sheet, 2);
@@ -96,7 +96,7 @@ pub fn check_sheet(sheet: &[u8]) -> Form
 }
 
 // 6
-pub fn check_list(list: &[u8]) -> Form
+fn check_list(list: &[u8]) -> Form
     ensures { λ r. ⌜ formSays r ≡ judge (listCheck (now (list .entry)) ∷ []) passed ⌝ }
 {
     let i = first_above(list, 1);
@@ -106,8 +106,19 @@ pub fn check_list(list: &[u8]) -> Form
     Form::Passed
 }
 
+// Test and Show: 1, 2, 3, 6
+pub fn check_test<'a>(maker: &'a [u8], depot: &'a [u8], list: &[u8]) -> Form
+    ensures { λ r. ⌜ formSays r ≡ judge (testChecks (now (maker .entry)) (now (depot .entry)) (now (list .entry))) passed ⌝ }
+{
+    let tables = check_tables(maker, depot, list.len());
+    if let Form::Refused(why) = tables {
+        return Form::Refused(why);
+    }
+    check_list(list)
+}
+
 // 5, place 0
-pub fn check_given(given: &[u8], n: usize) -> Form
+fn check_given(given: &[u8], n: usize) -> Form
     ensures { λ r. ⌜ formSays r ≡ judge (givenCheck n (now (given .entry)) ∷ []) passed ⌝ }
 {
     if given.len() != n {
@@ -117,7 +128,7 @@ pub fn check_given(given: &[u8], n: usize) -> Form
 }
 
 // 5, place 1
-pub fn check_out(out: &[u8], n: usize) -> Form
+fn check_out(out: &[u8], n: usize) -> Form
     ensures { λ r. ⌜ formSays r ≡ judge (outCheck n (now (out .entry)) ∷ []) passed ⌝ }
 {
     if out.len() != n {

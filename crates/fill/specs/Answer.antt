@@ -3,6 +3,7 @@
 use mathlib.Core.Path.{_≡_}
 use mathlib.Core.List.{List}
 use Prim.Native.Nat.{ℕ}
+use lib.ListN.{length}
 use Rattle.spec.specs.Records.{rulesIn}
 use Rattle.spec.specs.Facts as facts
 use Rattle.spec.specs.Refusals.{Said, refused, passed, filled, judge, orderChecks}
@@ -25,6 +26,11 @@ pub record FillDoes (maker depot sheet out : List ℕ) (answer : Filled) (left :
 -- the checks of form have passed
 pub record InForm (maker depot sheet out : List ℕ) : Type 0 where
   pub form : judge (orderChecks maker depot sheet out) passed ≡ passed
+
+-- and the number of boxes is the sheet's length
+pub record Fillable (n : ℕ) (maker depot sheet out : List ℕ) : Type 0 where
+  pub call : InForm maker depot sheet out
+  pub boxes : n ≡ length sheet
 
 -- the closure of the sheet, without a clash
 pub record IsFilled (maker depot sheet filled : List ℕ) : Type 0 where

@@ -1,6 +1,5 @@
 // The public operation Fill: the checks, the engine, and what is written.
-ghost use mathlib.Core.Path.{_≡_};
-ghost use Rattle.fill.specs.Answer.{InForm, IsFilled, FillDoes};
+ghost use Rattle.fill.specs.Answer.{InForm, Fillable, IsFilled, FillDoes};
 use crate::engine::run;
 use accept::form::Form;
 use accept::form::Refusal;
@@ -10,6 +9,8 @@ use sheet::count_filled;
 use sheet::count_open;
 use sheet::load;
 use sheet::store;
+use tables::Tables;
+use tables::carry;
 
 pub enum Filled {
     Boxes(usize),
@@ -31,8 +32,9 @@ fn hand_out<'a>(
     ensures { λ r. ⌜ FillDoes (now (maker .entry)) (now (depot .entry)) (now (sheet .entry)) (now (out .entry)) r (now (out .exit)) ⌝ }
 {
     if count_open(filled) == 0 {
-        let i = first_broken(maker, depot, filled);
-        if i < maker.len() / 8 + depot.len() / 8 {
+        let count = maker.len() / 8 + depot.len() / 8;
+        let i = first_broken(maker, depot, count, filled);
+        if i < count {
             return Filled::Broken(i);
         }
     }
@@ -40,8 +42,15 @@ fn hand_out<'a>(
     Filled::Boxes(count_filled(sheet, filled))
 }
 
-fn fill_accepted<'a>(maker: &'a [u8], depot: &'a [u8], sheet: &[u8], out: &mut [u8]) -> Filled
-    requires { ⌜ InForm (now maker) (now depot) (now sheet) (now out) ⌝ }
+// What is left to do once the checks have passed.
+fn fill_accepted<'a>(
+    maker: &'a [u8],
+    depot: &'a [u8],
+    n: usize,
+    sheet: &[u8],
+    out: &mut [u8],
+) -> Filled
+    requires { ⌜ Fillable n (now maker) (now depot) (now sheet) (now out) ⌝ }
     ensures { λ r. ⌜ FillDoes (now (maker .entry)) (now (depot .entry)) (now (sheet .entry)) (now (out .entry)) r (now (out .exit)) ⌝ }
 {
     let loaded = load(sheet);
@@ -49,8 +58,29 @@ fn fill_accepted<'a>(maker: &'a [u8], depot: &'a [u8], sheet: &[u8], out: &mut [
     if run(maker, depot, &mut states) {
         return Filled::Clash;
     }
-    let n = sheet.len();
     hand_out(maker, depot, sheet, &states[..n], out)
+}
+
+// The same over tables that are carried.
+fn fill_tables<'a>(t: Tables<'a>, sheet: &[u8], out: &mut [u8]) -> Filled
+    requires { ⌜ Fillable (t .n) (now (t .maker)) (now (t .depot)) (now sheet) (now out) ⌝ }
+    ensures { λ r. ⌜ FillDoes (now (t .entry .maker)) (now (t .entry .depot)) (now (sheet .entry)) (now (out .entry)) r (now (out .exit)) ⌝ }
+{
+    fill_accepted(t.maker, t.depot, t.n, sheet, out)
+}
+
+// Puts the accepted tables and the number of boxes together. They are carried from here on.
+fn fill_carried<'a>(
+    maker: &'a [u8],
+    depot: &'a [u8],
+    n: usize,
+    sheet: &[u8],
+    out: &mut [u8],
+) -> Filled
+    requires { ⌜ Fillable n (now maker) (now depot) (now sheet) (now out) ⌝ }
+    ensures { λ r. ⌜ FillDoes (now (maker .entry)) (now (depot .entry)) (now (sheet .entry)) (now (out .entry)) r (now (out .exit)) ⌝ }
+{
+    fill_tables(carry(maker, depot, n), sheet, out)
 }
 
 pub fn fill<'a>(maker: &'a [u8], depot: &'a [u8], sheet: &[u8], out: &mut [u8]) -> Filled
@@ -60,5 +90,5 @@ pub fn fill<'a>(maker: &'a [u8], depot: &'a [u8], sheet: &[u8], out: &mut [u8]) 
     if let Form::Refused(why) = form {
         return Filled::Refused(why);
     }
-    fill_accepted(maker, depot, sheet, out)
+    fill_carried(maker, depot, sheet.len(), sheet, out)
 }

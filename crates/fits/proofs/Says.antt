@@ -1,39 +1,45 @@
--- What Test says after each of its checks.
+-- What Test says and Show shows after the checks.
 -- Assumes nothing.
-use mathlib.Core.Path.{_≡_, refl, sym, _∙_, ap}
-use mathlib.Core.List.{List, [], _∷_}
-use Prim.Native.Nat.{ℕ}
-use lib.ListN.{length}
+use mathlib.Core.Path.{_≡_, sym, _∙_, ap}
+use mathlib.Core.Bool.{false}
+use mathlib.Core.List.{List}
+use Prim.Native.Nat.{ℕ, _≤_, _<_}
+use borrow.Author.Tests.{lt-ltb, le-ltb}
+use denote.Ref.{RefT}
 use Rattle.spec.specs.Records.{recordCount}
-use Rattle.spec.specs.Refusals.{Said, passed, judge, tableChecks, listCheck}
-use Rattle.spec.specs.Fits.{firstBroken, tested, testSays}
-use Rattle.spec.proofs.Judge.{judge-append, judge-passed}
+use Rattle.spec.specs.Refusals.{fits, broken, passed, judge}
+use Rattle.spec.specs.Fits.{firstBroken, testChecks, testSays, Part, partFor, showsPart}
+use Rattle.spec.proofs.Judge.{judge-passed}
 use Rattle.accept.specs.Form.{refusalSays}
-use Rattle.accept.proofs.Refused.{refusal-said}
 use Rattle.accept.specs.declared.form.Refusal.{Refusal}
+use Rattle.accept.proofs.Refused.{numbered, refusal-said}
+use Rattle.fits.specs.Answer.{judged, Shows}
 
 module _ (maker depot l : List ℕ) where
-  -- what is said once the tables have passed
-  after-tables : Said
-  after-tables = judge (listCheck l ∷ []) (tested (recordCount maker depot) (firstBroken maker depot l))
+  pub test-refused : (why : Refusal) → refusalSays why ≡ judge (testChecks maker depot l) passed → refusalSays why ≡ testSays maker depot l
+  unfolding testSays
+  test-refused why e = refusal-said why (testChecks maker depot l) _ e
 
-  test-tables : testSays maker depot l ≡ judge (tableChecks (length l) maker depot) after-tables
-  unfolding testSays after-tables
-  test-tables = judge-append (tableChecks (length l) maker depot) (listCheck l ∷ []) _
+  pub test-passed : judge (testChecks maker depot l) passed ≡ passed → judged maker depot l ≡ testSays maker depot l
+  unfolding testSays
+  test-passed e = sym (judge-passed (testChecks maker depot l) _ e)
 
-  pub test-refused-tables : (why : Refusal) → refusalSays why ≡ judge (tableChecks (length l) maker depot) passed →
-      refusalSays why ≡ testSays maker depot l
-  test-refused-tables why e = refusal-said why (tableChecks (length l) maker depot) after-tables e ∙ sym test-tables
+  -- a refusal is shown by the empty part
+  pub show-refused : (why : Refusal) → refusalSays why ≡ judge (testChecks maker depot l) passed → showsPart maker depot l ≡ record { depots = false; start = 0; size = 0 }
+  unfolding showsPart
+  show-refused why e = ap (partFor maker) (sym (test-refused why e) ∙ numbered why .2)
 
-  module _ (tables : judge (tableChecks (length l) maker depot) passed ≡ passed) where
-    test-passed-tables : after-tables ≡ testSays maker depot l
-    test-passed-tables = sym (judge-passed (tableChecks (length l) maker depot) after-tables tables) ∙ sym test-tables
+  pub show-passed : judge (testChecks maker depot l) passed ≡ passed → partFor maker (judged maker depot l) ≡ showsPart maker depot l
+  unfolding showsPart
+  show-passed e = ap (partFor maker) (test-passed e)
 
-    pub test-refused-list : (why : Refusal) → refusalSays why ≡ judge (listCheck l ∷ []) passed → refusalSays why ≡ testSays maker depot l
-    unfolding after-tables
-    test-refused-list why e = refusal-said why (listCheck l ∷ []) _ e ∙ test-passed-tables
+  -- what is said once the first broken record is looked for
+  module _ (i : ℕ) (found : i ≡ firstBroken maker depot l) where
+    pub judged-broken : i < recordCount maker depot → broken i ≡ judged maker depot l
+    judged-broken h = simp (← found, lt-ltb _ _ h)
 
-    pub test-passed : judge (listCheck l ∷ []) passed ≡ passed →
-        tested (recordCount maker depot) (firstBroken maker depot l) ≡ testSays maker depot l
-    unfolding after-tables
-    test-passed e = sym (judge-passed (listCheck l ∷ []) _ e) ∙ test-passed-tables
+    pub judged-fits : recordCount maker depot ≤ i → fits ≡ judged maker depot l
+    judged-fits h = simp (← found, le-ltb _ _ h)
+
+pub shows-as : {maker depot r : RefT (List ℕ)} {part other : Part} → part ≡ other → Shows maker depot other r → Shows maker depot part r
+shows-as e shown = rw e shown

@@ -7,8 +7,10 @@ use Prim.Native.Nat.{ℕ, _+_}
 use denote.Ref.{RefT, now, ptr}
 use Rattle.spec.specs.Kinds.{Place, X, Y, Z}
 use Rattle.spec.specs.Refusals.{Said, fits, broken}
-use Rattle.spec.specs.Fits.{Part, bytesOf}
+use Rattle.spec.specs.Records.{recordCount}
+use Rattle.spec.specs.Fits.{firstBroken, tested, Part, bytesOf}
 use Rattle.accept.specs.Form.{refusalSays}
+use Rattle.accept.specs.Record.{WholeRecords}
 use Rattle.fits.specs.declared.Tested.{Tested}
 use Rattle.fits.specs.declared.Tested.the-variants.{Fits, Broken, Refused}
 
@@ -21,6 +23,15 @@ abbrev pub testedSays : Tested → Said
 testedSays Fits = fits
 testedSays (Broken number) = broken number
 testedSays (Refused why) = refusalSays why
+
+-- both tables hold whole records, and this is how many
+pub record Counted (maker depot : List ℕ) (count : ℕ) : Type 0 where
+  pub whole : WholeRecords maker depot
+  pub counted : count ≡ recordCount maker depot
+
+-- what Test says of accepted tables and a full list
+abbrev pub judged : (maker depot l : List ℕ) → Said
+judged maker depot l = tested (recordCount maker depot) (firstBroken maker depot l)
 
 -- the part lies in the table that it names, where it says (a place is a block and an offset in it), and has that table's bytes
 pub record Shows (maker depot : RefT (List ℕ)) (part : Part) (r : RefT (List ℕ)) : Type 0 where

@@ -1,15 +1,19 @@
 // Test and Show: whether a full list fits every rule by its truth table, the first record that it breaks, and that record's bytes.
 ghost use mathlib.Core.Path.{_≡_};
 ghost use Rattle.spec.specs.Kinds.{kindOf, meaning};
-ghost use Rattle.spec.specs.Fits.{isIn, breaks, firstBroken, testSays, showsPart};
-ghost use Rattle.accept.specs.Record.{asRec, WholeRecords};
-ghost use Rattle.fits.specs.Answer.{atPlaces, testedSays, Shows};
+ghost use Rattle.spec.specs.Fits.{isIn, breaks, firstBroken, testSays, partFor, showsPart};
+ghost use Rattle.spec.proofs.Accepted.{Accepted};
+ghost use Rattle.tables.specs.Carried.{Carried};
+ghost use Rattle.accept.specs.Record.{asRec};
+ghost use Rattle.fits.specs.Answer.{atPlaces, testedSays, Counted, judged, Shows};
 use accept::form::Form;
 use accept::form::Refusal;
-use accept::form::check_list;
-use accept::form::check_tables;
+use accept::form::check_test;
 use accept::record::Record;
 use accept::record::record_at;
+use tables::Tables;
+use tables::carry;
+use tables::count;
 
 pub enum Tested {
     Fits,
@@ -46,12 +50,11 @@ fn is_broken(list: &[u8], q: Record) -> bool
     !truth(q.kind, is_in(list, q.x), is_in(list, q.y), is_in(list, q.z))
 }
 
-// The lowest broken record, or the number of records where none is broken.
-pub fn first_broken<'a>(maker: &'a [u8], depot: &'a [u8], list: &[u8]) -> usize
-    requires { ⌜ WholeRecords (now maker) (now depot) ⌝ }
+// The lowest broken record, or the number of records, `count`, where none is broken.
+pub fn first_broken<'a>(maker: &'a [u8], depot: &'a [u8], count: usize, list: &[u8]) -> usize
+    requires { ⌜ Counted (now maker) (now depot) count ⌝ }
     ensures { λ r. ⌜ r ≡ firstBroken (now (maker .entry)) (now (depot .entry)) (now (list .entry)) ⌝ }
 {
-    let count = maker.len() / 8 + depot.len() / 8;
     let mut i = 0;
     while i < count {
         if is_broken(list, record_at(maker, depot, i)) {
@@ -62,30 +65,52 @@ pub fn first_broken<'a>(maker: &'a [u8], depot: &'a [u8], list: &[u8]) -> usize
     i
 }
 
-pub fn test<'a>(maker: &'a [u8], depot: &'a [u8], list: &[u8]) -> Tested
-    ensures { λ r. ⌜ testedSays r ≡ testSays (now (maker .entry)) (now (depot .entry)) (now (list .entry)) ⌝ }
+// What Test has left to say once the checks have passed.
+fn test_accepted<'a>(maker: &'a [u8], depot: &'a [u8], count: usize, list: &[u8]) -> Tested
+    requires { ⌜ Counted (now maker) (now depot) count ⌝ }
+    ensures { λ r. ⌜ testedSays r ≡ judged (now (maker .entry)) (now (depot .entry)) (now (list .entry)) ⌝ }
 {
-    let tables = check_tables(maker, depot, list.len());
-    if let Form::Refused(why) = tables {
-        return Tested::Refused(why);
-    }
-    let bytes = check_list(list);
-    if let Form::Refused(why) = bytes {
-        return Tested::Refused(why);
-    }
-    let i = first_broken(maker, depot, list);
-    if i < maker.len() / 8 + depot.len() / 8 {
+    let i = first_broken(maker, depot, count, list);
+    if i < count {
         return Tested::Broken(i);
     }
     Tested::Fits
 }
 
-// The empty part at the start of the maker's table stands for every answer of Test that names no record.
-pub fn show<'a>(maker: &'a [u8], depot: &'a [u8], list: &[u8]) -> &'a [u8]
-    ensures { λ r. ⌜ Shows (maker .entry) (depot .entry) (showsPart (now (maker .entry)) (now (depot .entry)) (now (list .entry))) r ⌝ }
+// The same over tables that are carried.
+fn test_tables<'a>(t: Tables<'a>, list: &[u8]) -> Tested
+    requires { ⌜ Carried t ⌝ }
+    ensures { λ r. ⌜ testedSays r ≡ judged (now (t .entry .maker)) (now (t .entry .depot)) (now (list .entry)) ⌝ }
 {
-    let answer = test(maker, depot, list);
-    if let Tested::Broken(i) = answer {
+    test_accepted(t.maker, t.depot, count(t), list)
+}
+
+// Puts the accepted tables and the number of boxes together. They are carried from here on.
+fn test_carried<'a>(maker: &'a [u8], depot: &'a [u8], n: usize, list: &[u8]) -> Tested
+    requires { ⌜ Accepted n (now maker) (now depot) ⌝ }
+    ensures { λ r. ⌜ testedSays r ≡ judged (now (maker .entry)) (now (depot .entry)) (now (list .entry)) ⌝ }
+{
+    test_tables(carry(maker, depot, n), list)
+}
+
+pub fn test<'a>(maker: &'a [u8], depot: &'a [u8], list: &[u8]) -> Tested
+    ensures { λ r. ⌜ testedSays r ≡ testSays (now (maker .entry)) (now (depot .entry)) (now (list .entry)) ⌝ }
+{
+    let form = check_test(maker, depot, list);
+    if let Form::Refused(why) = form {
+        return Tested::Refused(why);
+    }
+    test_carried(maker, depot, list.len(), list)
+}
+
+// What Show has left to show once the checks have passed. The empty part at the start of the maker's table stands for every answer of
+// Test that names no record.
+fn show_accepted<'a>(maker: &'a [u8], depot: &'a [u8], count: usize, list: &[u8]) -> &'a [u8]
+    requires { ⌜ Counted (now maker) (now depot) count ⌝ }
+    ensures { λ r. ⌜ Shows (maker .entry) (depot .entry) (partFor (now (maker .entry)) (judged (now (maker .entry)) (now (depot .entry)) (now (list .entry)))) r ⌝ }
+{
+    let i = first_broken(maker, depot, count, list);
+    if i < count {
         let at = 8 * i;
         if at < maker.len() {
             let end = at + 8;
@@ -96,4 +121,30 @@ pub fn show<'a>(maker: &'a [u8], depot: &'a [u8], list: &[u8]) -> &'a [u8]
         return &depot[start..end];
     }
     &maker[0..0]
+}
+
+// The same over tables that are carried.
+fn show_tables<'a>(t: Tables<'a>, list: &[u8]) -> &'a [u8]
+    requires { ⌜ Carried t ⌝ }
+    ensures { λ r. ⌜ Shows (t .entry .maker) (t .entry .depot) (partFor (now (t .entry .maker)) (judged (now (t .entry .maker)) (now (t .entry .depot)) (now (list .entry)))) r ⌝ }
+{
+    show_accepted(t.maker, t.depot, count(t), list)
+}
+
+// Puts the accepted tables and the number of boxes together. They are carried from here on.
+fn show_carried<'a>(maker: &'a [u8], depot: &'a [u8], n: usize, list: &[u8]) -> &'a [u8]
+    requires { ⌜ Accepted n (now maker) (now depot) ⌝ }
+    ensures { λ r. ⌜ Shows (maker .entry) (depot .entry) (partFor (now (maker .entry)) (judged (now (maker .entry)) (now (depot .entry)) (now (list .entry)))) r ⌝ }
+{
+    show_tables(carry(maker, depot, n), list)
+}
+
+pub fn show<'a>(maker: &'a [u8], depot: &'a [u8], list: &[u8]) -> &'a [u8]
+    ensures { λ r. ⌜ Shows (maker .entry) (depot .entry) (showsPart (now (maker .entry)) (now (depot .entry)) (now (list .entry))) r ⌝ }
+{
+    let form = check_test(maker, depot, list);
+    if let Form::Refused(_) = form {
+        return &maker[0..0];
+    }
+    show_carried(maker, depot, list.len(), list)
 }

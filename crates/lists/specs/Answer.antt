@@ -29,13 +29,14 @@ pub record NextDoes (maker depot sheet given out : List ℕ) (answer : Listed) (
   pub says : listedSays answer ≡ nextSays maker depot sheet given out
   pub writes : left ≡ nextWrites maker depot sheet given out
 
--- tables and sheet have passed, and the lists have their lengths
-pub record InCall (maker depot sheet given : List ℕ) (after : Bool) (out : List ℕ) : Type 0 where
+-- tables and sheet have passed, n is the sheet's length, and the lists have theirs
+pub record InCall (n : ℕ) (maker depot sheet given : List ℕ) (after : Bool) (out : List ℕ) : Type 0 where
   pub form : judge (sheetChecks maker depot sheet) passed ≡ passed
-  pub room : length out ≡ length sheet
-  pub size : after ≡ true → length given ≡ length sheet
+  pub boxes : length sheet ≡ n
+  pub room : length out ≡ n
+  pub size : after ≡ true → length given ≡ n
 
 -- the kit that was asked for is in the buffer, or there is none and the buffer is as it was
-pub record Chosen (maker depot sheet given : List ℕ) (after : Bool) (out : List ℕ) (found : Bool) (left : List ℕ) : Type 0 where
-  pub answer : AnswerTo (Wanted (rulesIn maker depot) (length sheet) sheet after given) found left
+pub record Chosen (n : ℕ) (maker depot sheet given : List ℕ) (after : Bool) (out : List ℕ) (found : Bool) (left : List ℕ) : Type 0 where
+  pub answer : AnswerTo (Wanted (rulesIn maker depot) n sheet after given) found left
   pub kept : found ≡ false → left ≡ out

@@ -1,8 +1,7 @@
 -- `fits::first_broken` meets its contract: no record passed is broken.
 -- Assumes nothing.
-use mathlib.Core.Path.{_≡_, refl, sym, _∙_, ap}
-use mathlib.Core.Bool.{Bool}
-use Prim.Native.Nat.{ℕ, _-_}
+use mathlib.Core.Path.{_≡_, sym, _∙_, ap}
+use Prim.Native.Nat.{_-_}
 use native.Mathlib.Omega.{arith}
 use borrow.Author.Needs.{needs}
 use Rattle.lemmas.proofs.Lowest.{Searched, searched-start, searched-next, searched-found, searched-all}
@@ -12,21 +11,17 @@ use Rattle.fits.proofs.first_broken.Statement.{statement}
 use Rattle.fits.proofs.first_broken.Tie as tie
 
 abbrev Inv-loop : tie.InvT-loop
-Inv-loop maker depot list count i₀ i =
+Inv-loop maker depot count list i₀ i =
     (count ≡ recordCount maker depot) × Searched (λ r. breaks list (recordAt maker depot r)) (recordCount maker depot) i
 
 abbrev μ-loop : tie.MeasureT-loop
-μ-loop maker depot list count i₀ i = count - i
-
-add-count : tie.Need-add-count Inv-loop μ-loop
-add-count c = search needs
+μ-loop maker depot count list i₀ i = count - i
 
 loop-holds : tie.Need-loop-holds Inv-loop μ-loop
-unfolding recordCount
-loop-holds c = (refl, searched-start)
+loop-holds c = (c .before .before .before .pre .counted, searched-start)
 
 record-at-requires : tie.Need-record-at-requires Inv-loop μ-loop
-record-at-requires c κs = (c .before .before .before .before .before .pre, omega (arith, c .before .loop .inv .0))
+record-at-requires c κs = (c .before .before .before .before .before .pre .whole, omega (arith, c .before .loop .inv .0))
 
 is-broken-requires : tie.Need-is-broken-requires Inv-loop μ-loop
 is-broken-requires c κs = search needs
@@ -55,4 +50,4 @@ returns-2 c = searched-all (c .before .loop .inv .1) (omega (arith, c .before .l
 pub first-broken-spec : {M : Type 1} → statement M
 first-broken-spec =
     tie.close
-    (tie.spec Inv-loop μ-loop add-count loop-holds record-at-requires is-broken-requires returns add-i loop-less loop-again returns-2)
+    (tie.spec Inv-loop μ-loop loop-holds record-at-requires is-broken-requires returns add-i loop-less loop-again returns-2)

@@ -4,7 +4,7 @@ use mathlib.Core.Path.{_≡_, refl, ap, _∙_, fun-ext}
 use mathlib.Core.Bool.{Bool, not}
 use mathlib.Core.List.{List}
 use Prim.Native.Nat.{ℕ}
-use Rattle.spec.specs.Kinds.{Place, X, Y, Z, kindOf, meaning}
+use Rattle.spec.specs.Kinds.{X, Y, Z, kindOf, meaning}
 use Rattle.accept.specs.Record.{asRec}
 use Rattle.fits.specs.Answer.{atPlaces}
 use Rattle.spec.specs.Records.{Rec, boxAt}

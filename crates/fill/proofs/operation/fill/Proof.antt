@@ -1,6 +1,6 @@
 -- `fill::operation::fill` meets its contract: the checks come first, and what comes after them is Fill's.
 -- Assumes nothing.
-use mathlib.Core.Path.{sym, ap, _∙_}
+use mathlib.Core.Path.{refl, sym, ap, _∙_}
 use Rattle.accept.specs.Form.{formSays}
 use Rattle.fill.proofs.Says.{fill-refuses}
 use borrow.Author.Needs.{needs}
@@ -25,9 +25,12 @@ returns c =
 enum-told : tie.Need-enum-told
 enum-told c = search needs
 
-fill-accepted-requires : tie.Need-fill-accepted-requires
-fill-accepted-requires c κs =
-    record { form = sym (ap formSays (sym (c .before .enum-told .given .1)) ∙ c .before .before .before .check-order .ensures) }
+fill-carried-requires : tie.Need-fill-carried-requires
+fill-carried-requires c κs =
+    record {
+      call = record { form = sym (ap formSays (sym (c .before .enum-told .given .1)) ∙ c .before .before .before .check-order .ensures) };
+      boxes = refl;
+    }
 
 same-length-2 : tie.Need-same-length-2
 same-length-2 c = search needs
@@ -44,6 +47,6 @@ fill-spec =
     same-length
     returns
     enum-told
-    fill-accepted-requires
+    fill-carried-requires
     same-length-2
     returns-2)

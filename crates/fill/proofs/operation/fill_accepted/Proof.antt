@@ -1,9 +1,9 @@
 -- `fill::operation::fill_accepted` meets its contract: the engine comes to rest at the closure, or finds a clash.
 -- Assumes nothing.
-use mathlib.Core.Path.{_≡_, refl, sym, subst, _∙_}
+use mathlib.Core.Path.{_≡_, refl, sym, subst}
 use mathlib.Core.Bool.{Bool, true, false}
 use native.Mathlib.Omega.{arith}
-use Prim.Native.Nat.{_≤_}
+use Prim.Native.Nat.{ℕ, _≤_}
 use lib.ListN.{length, take}
 use lib.Seq.{length-take-le}
 use Rattle.spec.specs.Records.{rulesIn}
@@ -24,12 +24,12 @@ use Rattle.fill.proofs.operation.fill_accepted.Tie as tie
 load-requires : tie.Need-load-requires
 load-requires c κs =
     let start = c .before .before .before .before in
-    form-passed (start .args .maker .now) (start .args .depot .now) (start .args .sheet .now) (start .args .out .now) (start .pre .form) .tables .boxes
+    form-passed (start .args .maker .now) (start .args .depot .now) (start .args .sheet .now) (start .args .out .now) (start .pre .call .form) .tables .boxes
 
 run-requires : tie.Need-run-requires
 run-requires c κs =
     let start = c .before .before .before .before .before .before .before in
-    (good-tables (start .args .maker .now) (start .args .depot .now) (start .args .sheet .now) (start .args .out .now) (start .pre), good-cells (start .args .maker .now) (start .args .depot .now) (start .args .sheet .now) (start .args .out .now) (start .pre) (c .before .before .load .result .states) (c .before .before .load .ensures))
+    (good-tables (start .args .maker .now) (start .args .depot .now) (start .args .sheet .now) (start .args .out .now) (start .pre .call), good-cells (start .args .maker .now) (start .args .depot .now) (start .args .sheet .now) (start .args .out .now) (start .pre .call) (c .before .before .load .result .states) (c .before .before .load .ensures))
 
 -- what the engine came to
 rested : (c : tie.After-run) (answer : Bool) → c .run .result ≡ answer →
@@ -42,17 +42,18 @@ returns : tie.Need-returns
 returns c =
     let start = c .before .before .before .before .before .before .before .before .before in
     let clash = rested (c .before) true (c .if1 .taken) in
-    does Clash (fill-clash (start .args .maker .now) (start .args .depot .now) (start .args .sheet .now) (start .args .out .now) (start .pre .form) (loaded-clash (c .before .before .before .before .load .ensures) _ (clash .0) (clash .1))) refl
+    does Clash (fill-clash (start .args .maker .now) (start .args .depot .now) (start .args .sheet .now) (start .args .out .now) (start .pre .call .form) (loaded-clash (c .before .before .before .before .load .ensures) _ (clash .0) (clash .1))) refl
 
 -- at rest there are 256 states
-rest-size : (c : tie.Else1) → length (c .before .before .before .before .before .before .before .before .before .args .sheet .now) ≤ length (c .before .run .last .1 .1 .0)
+rest-size : (c : tie.Else1) → c .before .before .before .before .before .before .before .before .before .args .n ≤ length (c .before .run .last .1 .1 .0)
 rest-size c =
     let start = c .before .before .before .before .before .before .before .before .before in
     omega (
       arith,
+      start .pre .boxes,
       rested (c .before) false (c .if1 .left) .0 .size,
       c .before .before .before .before .load .ensures .size,
-      form-passed (start .args .maker .now) (start .args .depot .now) (start .args .sheet .now) (start .args .out .now) (start .pre .form) .tables .boxes,
+      form-passed (start .args .maker .now) (start .args .depot .now) (start .args .sheet .now) (start .args .out .now) (start .pre .call .form) .tables .boxes,
     )
 
 -- and the first of them are the closure
@@ -60,7 +61,7 @@ rest-filled : (c : tie.Else1) → IsFilled (c .before .before .before .before .b
 unfolding closureOf
 rest-filled c =
     let start = c .before .before .before .before .before .before .before .before .before in
-    let form = form-passed (start .args .maker .now) (start .args .depot .now) (start .args .sheet .now) (start .args .out .now) (start .pre .form) in
+    let form = form-passed (start .args .maker .now) (start .args .depot .now) (start .args .sheet .now) (start .args .out .now) (start .pre .call .form) in
     let at-rest = rested (c .before) false (c .if1 .left) in
     record {
       closure =
@@ -73,10 +74,14 @@ array-share-prefix-states : tie.Need-array-share-prefix-states
 array-share-prefix-states c = rest-size c
 
 slice-aggregate-hand-out : tie.Need-slice-aggregate-hand-out
-slice-aggregate-hand-out c = sym (length-take-le (length (c .before .before .before .before .before .before .before .before .before .before .args .sheet .now)) (c .before .before .run .last .1 .1 .0) (rest-size (c .before)))
+slice-aggregate-hand-out c = sym (length-take-le (c .before .before .before .before .before .before .before .before .before .before .args .n) (c .before .before .run .last .1 .1 .0) (rest-size (c .before)))
 
 hand-out-requires : tie.Need-hand-out-requires
-hand-out-requires c κs = (c .before .before .before .before .before .before .before .before .before .before .before .pre, rest-filled (c .before .before))
+hand-out-requires c κs =
+    let start = c .before .before .before .before .before .before .before .before .before .before .before in (
+      start .pre .call,
+      subst (λ (k : ℕ). IsFilled (start .args .maker .now) (start .args .depot .now) (start .args .sheet .now) (take k (c .before .before .before .run .last .1 .1 .0))) (sym (start .pre .boxes)) (rest-filled (c .before .before)),
+    )
 
 same-length : tie.Need-same-length
 same-length c = search needs

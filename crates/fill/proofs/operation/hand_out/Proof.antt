@@ -1,6 +1,6 @@
 -- `fill::operation::hand_out` meets its contract: 8 is given where it applies, and else the filled sheet is written.
 -- Assumes nothing.
-use mathlib.Core.Path.{_≡_, sym, _∙_}
+use mathlib.Core.Path.{refl, sym, _∙_}
 use mathlib.Core.Logic.{⊎-elim}
 use native.Mathlib.Omega.{arith}
 use Rattle.spec.specs.Records.{recordCount}
@@ -13,13 +13,15 @@ use Rattle.fill.proofs.operation.hand_out.Tie as tie
 count-open-requires : tie.Need-count-open-requires
 count-open-requires c κs = search needs
 
+add-count : tie.Need-add-count
+add-count c = search needs
+
 first-broken-requires : tie.Need-first-broken-requires
+unfolding recordCount
 first-broken-requires c κs =
     let start = c .before .before .before .before .before .before .before in
-    let known = form-passed (start .args .maker .now) (start .args .depot .now) (start .args .sheet .now) (start .args .out .now) (start .pre .0 .form) in record { makers = known .tables .makers; depots = known .tables .depots }
-
-add-if2 : tie.Need-add-if2
-add-if2 c = search needs
+    let known = form-passed (start .args .maker .now) (start .args .depot .now) (start .args .sheet .now) (start .args .out .now) (start .pre .0 .form) in
+    record { whole = record { makers = known .tables .makers; depots = known .tables .depots }; counted = refl }
 
 returns : tie.Need-returns
 unfolding recordCount
@@ -53,8 +55,8 @@ hand-out-spec =
     tie.close
     (tie.spec
     count-open-requires
+    add-count
     first-broken-requires
-    add-if2
     returns
     store-requires
     count-filled-requires
