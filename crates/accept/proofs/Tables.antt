@@ -1,13 +1,13 @@
 -- A record of the two tables taken as one lies whole in one of them.
 -- Assumes nothing.
-use mathlib.Core.Path.{_≡_, ap, _∙_, sym}
+use mathlib.Core.Path.{_≡_, ap, _∙_}
 use mathlib.Core.List.{List, _++_}
-use Prim.Native.Nat.{ℕ, _+_, _*_, _-_, _/_, _%_, _≤_, _<_}
-use native.Mathlib.Nat.{add-zero, add-assoc}
+use Prim.Native.Nat.{ℕ, _+_, _*_, _-_, _≤_, _<_}
+use native.Mathlib.Nat.{add-zero}
 use native.Mathlib.Omega.{arith}
 use lib.ListN.{length, getD, List·getD-append}
 use lib.Seq.{getD-append-add}
-use Rattle.spec.specs.Records.{Rec, recFrom, recordAt, recordCount, word}
+use Rattle.spec.specs.Records.{recFrom, recordAt, recordCount, word}
 use Rattle.accept.specs.Record.{WholeRecords}
 
 -- a record is read from eight bytes alone

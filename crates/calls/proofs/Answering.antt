@@ -2,21 +2,20 @@
 -- Assumes nothing.
 use mathlib.Core.Path.{_≡_, refl, sym, _∙_, ap}
 use mathlib.Core.Logic.{⊎-elim}
-use mathlib.Core.Bool.{Bool, true, false, true≢false}
+use mathlib.Core.Bool.{true, false, true≢false}
 use mathlib.Core.List.{List, [], _∷_, _++_}
 use Prim.Native.Nat.{ℕ, _+_, _≤_, _<_}
 use native.Mathlib.Omega.{arith}
 use native.Mathlib.Nat.{zero-add}
 use types.Run.{OneOf}
 use denote.Enum.Declared.{tagOf}
-use lib.Dec.{ltb, eqb}
 use lib.ListN.{length, getD, take, drop}
 use borrow.Author.Tests.{lt-ltb, le-ltb, eq-eqb, ne-eqb}
 use Rattle.lemmas.specs.Lists.{all}
 use Rattle.text.specs.Spelling.{ascii}
 use Rattle.calls.specs.Words.{wordOf}
 use Rattle.calls.specs.Cuts.{until}
-use Rattle.calls.specs.Fields.{fieldsOf, fieldAt, isField}
+use Rattle.calls.specs.Fields.{fieldsOf, isField}
 use Rattle.calls.specs.Answers.{errorFor, answerTo}
 use Rattle.calls.specs.Parts.{HasFields}
 use Rattle.calls.specs.Lines.{isKnown, arity, lineWord, answerOf, replyTo}

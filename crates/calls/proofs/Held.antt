@@ -3,7 +3,7 @@
 use mathlib.Core.Path.{_≡_, refl, sym, _∙_, ap}
 use mathlib.Core.Bool.{true}
 use mathlib.Core.List.{List, [], _∷_, _++_, append-assoc, append-nil}
-use Prim.Native.Nat.{ℕ, zero, suc, _+_, _*_, _-_, _≤_, _<_}
+use Prim.Native.Nat.{ℕ, zero, suc, _+_, _*_, _≤_}
 use native.Mathlib.Omega.{arith}
 use lib.ListN.{length, getD, take, drop, length-append, length-drop, take-append-drop}
 use lib.Seq.{take-at, getD-drop, length-take-le}
@@ -16,7 +16,7 @@ use Rattle.calls.specs.Answers.{part}
 use Rattle.calls.specs.Parts.{HasFields, InOrder, Taken, ThreeParts, makerIn, depotIn, thirdIn, givenIn}
 use Rattle.calls.specs.declared.parts.Place.{Place}
 use Rattle.calls.specs.declared.parts.Parts.{Parts}
-use Rattle.calls.proofs.Splitting.{end-below, piece-length, first-piece, ends-before, next-pieces}
+use Rattle.calls.proofs.Splitting.{end-below, piece-length, first-piece, next-pieces}
 use Rattle.calls.proofs.Pieces.{bytes-half, has-next, piece}
 use Rattle.calls.proofs.Taking.{taken-within, taken-front}
 

@@ -1,16 +1,15 @@
 -- Three fields taken one after the other: their parts stand at the front of the buffer.
 -- Assumes nothing.
-use mathlib.Core.Path.{_≡_, refl, sym, _∙_, ap}
+use mathlib.Core.Path.{_≡_, refl, _∙_, ap}
 use mathlib.Core.List.{List, [], _∷_, _++_}
 use Prim.Native.Nat.{ℕ, _+_, _≤_, _<_}
 use native.Mathlib.Omega.{arith}
 use lib.ListN.{length, getD, take, drop}
 use Rattle.text.proofs.Puts.{put-length, put-front}
 use Rattle.calls.specs.Fields.{fieldsOf, fieldAt, bytesIn}
-use Rattle.calls.specs.Answers.{part}
 use Rattle.calls.specs.Parts.{HasFields, Taken, ThreeParts}
 use Rattle.calls.specs.declared.parts.Place.{Place}
-use Rattle.calls.proofs.Splitting.{end-below, piece-length, first-piece, ends-before, next-pieces}
+use Rattle.calls.proofs.Splitting.{end-below, first-piece, next-pieces}
 use Rattle.calls.proofs.Pieces.{has-next}
 
 module _ {line : List ℕ} {from : ℕ} {old : List ℕ} {at : ℕ} {new : List ℕ} {r : Place} (within : from ≤ length line) (t : Taken line from old at new r) where

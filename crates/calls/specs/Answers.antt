@@ -1,6 +1,6 @@
 -- What is answered to a call: what the operation says, in words, and the bytes that the lent buffer then holds.
 -- Assumes nothing.
-use mathlib.Core.List.{List, [], _∷_, _++_}
+use mathlib.Core.List.{List, [], _++_}
 use Prim.Native.Nat.{ℕ, _+_, _≤_}
 use lib.ListN.{getD}
 use Rattle.spec.specs.Refusals.{Said, refused, passed, fits, broken, filled, list}

@@ -5,7 +5,6 @@ ghost use Rattle.calls.specs.Fields.{fieldsOf};
 ghost use Rattle.calls.specs.Answers.{answerTo, PutWithin};
 ghost use Rattle.calls.specs.Lines.{arity};
 ghost use Rattle.calls.specs.Parts.{HasFields, Room};
-use crate::field::decode;
 use crate::operation::answer_fill;
 use crate::operation::answer_first;
 use crate::operation::answer_next;

@@ -7,7 +7,7 @@ mod parts;
 mod say;
 mod word;
 
-ghost use Prim.Native.Nat.{_+_, _≤_};
+ghost use Prim.Native.Nat.{_+_};
 ghost use lib.ListN.{length};
 ghost use Rattle.calls.specs.Answers.{PutWithin};
 ghost use Rattle.calls.specs.Parts.{Room};

@@ -3,10 +3,9 @@
 use mathlib.Core.Path.{_≡_, sym, ap, subst, _∙_}
 use mathlib.Core.Bool.{Bool, false, not, _&&_, _||_}
 use mathlib.Core.List.{List}
-use Prim.Native.Nat.{ℕ, _≤_, _<_}
+use Prim.Native.Nat.{ℕ, _≤_}
 use native.Mathlib.Omega.{arith}
 use lib.Dec.{T, leb, eqb, leb→le, le→leb}
-use lib.ListN.{length}
 use Rattle.lemmas.specs.Lists.{any}
 use Rattle.lemmas.proofs.Tests.{false-T, or-false-left, or-false-right}
 use Rattle.lemmas.proofs.Members.{any-member, any-of}

@@ -1,17 +1,14 @@
 -- Steps through the records one after the other, and sweeps one after the other: what each leaves for the next.
 -- Assumes nothing.
 use mathlib.Core.Path.{_≡_, refl, sym, subst, _∙_}
-use mathlib.Core.Logic.{_↔_}
 use mathlib.Core.Bool.{Bool, true, false}
 use mathlib.Core.List.{List, [], _∷_, List·Memᴰ, List·Memᴰ·eq-of-singleton}
 use Prim.Native.Nat.{ℕ, _+_, _≤_, _<_}
 use native.Mathlib.Omega.{arith}
 use borrow.Author.Count.{below-none, below-more}
-use lib.ListN.{length}
 use Rattle.spec.specs.Records.{Rec, recordAt, recordCount, rulesIn}
-use Rattle.spec.specs.Fill.{openCount}
 use Rattle.spec.proofs.Least.{closure-mono}
-use Rattle.theory.specs.Steps.{Stable, Grown}
+use Rattle.theory.specs.Steps.{Stable}
 use Rattle.theory.proofs.Growth.{grown-trans, grown-clash}
 use Rattle.theory.proofs.Numbered.{number-rule, every-rule}
 use Rattle.fill.specs.Moves.{Cells, Clashes, Larger, Stepped, Swept}

@@ -1,12 +1,12 @@
 -- One record's turn: from the states that `fire` gives to what the step answers.
 -- Assumes nothing.
 use mathlib.Core.Path.{_≡_, refl, sym, subst, _∙_}
-use mathlib.Core.Bool.{Bool, true, false}
+use mathlib.Core.Bool.{true, false}
 use mathlib.Core.List.{List, [], _∷_, List·Memᴰ·head}
 use Prim.Native.Nat.{ℕ, _≤_, _<_}
 use native.Mathlib.Omega.{arith}
 use borrow.Author.Tests.{le-leb, lt-leb}
-use lib.ListN.{length, getD, set}
+use lib.ListN.{getD, set}
 use Rattle.lemmas.proofs.Reading.{getD-default}
 use Rattle.spec.specs.Records.{Rec, bad}
 use Rattle.spec.specs.Rounds.{closed}
@@ -16,8 +16,8 @@ use Rattle.theory.proofs.Places.{good-x, good-y, good-z, z-missing}
 use Rattle.theory.proofs.Storing.{step-still}
 use Rattle.theory.proofs.Stepping.{Turn, fired-read, step-grown, step-stable}
 use Rattle.theory.proofs.Measure.{step-falls, turn-z}
-use Rattle.fill.specs.Moves.{Cells, Larger, Stepped}
-use Rattle.fill.specs.declared.engine.Move.the-variants.{Still, Moved, Clash}
+use Rattle.fill.specs.Moves.{Cells, Stepped}
+use Rattle.fill.specs.declared.engine.Move.the-variants.{Still, Moved}
 
 module _ (q : Rec) (s : List ℕ) (good : bad 256 q ≡ false) (cells : Cells s) where
   -- the indices that a step reads

@@ -8,7 +8,6 @@ use native.Mathlib.Omega.{arith}
 use borrow.Author.Tests.{ne-eqb}
 use lib.Dec.{eqb}
 use Rattle.spec.specs.Refusals.{Said, refused, passed, fits, broken, filled, list}
-use Rattle.accept.specs.Form.{refusalSays}
 use Rattle.accept.proofs.Refused.{numbered, refusalFor, refusal-back}
 use Rattle.fill.specs.declared.operation.Filled.{Filled}
 use Rattle.fill.specs.declared.operation.Filled.the-variants.{Boxes, Clash, Broken, Refused}

@@ -7,19 +7,13 @@ use mathlib.Core.Bool.{Bool, true, false, true≢false, not}
 use mathlib.Core.List.{List, [], _∷_, List·Memᴰ, List·Memᴰ·head, List·Memᴰ·tail, List·Memᴰ·not-nil}
 use Prim.Native.Nat.{ℕ}
 use lib.Dec.{T}
-use lib.ListN.{length}
 use Rattle.lemmas.specs.Lists.{those}
 use Rattle.lemmas.specs.Ascends.{Ascends}
 use Rattle.lemmas.proofs.Those.{those-member, member-those}
 use Rattle.lemmas.proofs.Ascending.{ascends-those}
 use Rattle.spec.specs.Kits.{before, isNone, headOf}
-use Rattle.kits.specs.Order.{Question, Least, AnswerTo}
-use Rattle.kits.proofs.Order.{before-irrefl, before-asym, before-total}
-
--- lists of one length: only one of them comes first
-pub least-unique : {P : Question} (n : ℕ) → ((k : List ℕ) → P k → length k ≡ n) → {l k : List ℕ} → Least P l → Least P k → l ≡ k
-least-unique n long {l} {k} h i =
-    before-total l k (long l (h .has) ∙ sym (long k (i .has))) (i .first l (h .has)) (h .first k (i .has))
+use Rattle.kits.specs.Order.{Question, AnswerTo}
+use Rattle.kits.proofs.Order.{before-irrefl, before-asym}
 
 pub answer-same : {P Q : Question} → ((k : List ℕ) → P k ↔ Q k) → (found : Bool) (l : List ℕ) → AnswerTo P found l → AnswerTo Q found l
 answer-same e true l h = record { has = e l .0 (h .has); first = λ k q. h .first k (e k .1 q) }

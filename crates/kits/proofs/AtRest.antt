@@ -15,7 +15,7 @@ use Rattle.lemmas.specs.Lists.{all}
 use Rattle.lemmas.proofs.Tests.{true-T}
 use Rattle.lemmas.proofs.Implies.{implies-at, implies-of}
 use Rattle.lemmas.proofs.Members.{all-member, all-of}
-use Rattle.spec.specs.Kinds.{Kind, kinds, Place, X, Y, Z, kindOf, meaning}
+use Rattle.spec.specs.Kinds.{Kind, kinds, Place, kindOf, meaning}
 use Rattle.spec.specs.Rules.{Literal, Rule, rulesOf}
 use Rattle.spec.specs.SameRule.{samePlace}
 use Rattle.spec.specs.Records.{Rec, boxAt, bad}

@@ -3,7 +3,7 @@
 -- Assumes nothing.
 use mathlib.Core.Path.{_≡_, _∙_}
 use mathlib.Core.Bool.{false}
-use mathlib.Core.List.{List, [], _∷_, _++_}
+use mathlib.Core.List.{List, [], _∷_}
 use Prim.Native.Nat.{ℕ, _<_}
 use native.Mathlib.Omega.{arith}
 use borrow.Author.Tests.{eq-eqb, le-ltb}
@@ -12,7 +12,7 @@ use lib.ListN.{length, getD}
 use Rattle.lemmas.specs.Lowest.{lowest}
 use Rattle.lemmas.proofs.Lowest.{lowest-none}
 use Rattle.lemmas.proofs.Reading.{getD-default}
-use Rattle.spec.specs.Refusals.{Check, passed, judge, tableChecks, sheetCheck, givenCheck, outCheck, listCheck, orderChecks, nextChecks, sheetChecks}
+use Rattle.spec.specs.Refusals.{passed, judge, givenCheck, outCheck, listCheck, orderChecks, nextChecks, sheetChecks}
 use Rattle.spec.proofs.Judge.{judge-append, judge-passed}
 use Rattle.kits.specs.Kit.{IsFull}
 

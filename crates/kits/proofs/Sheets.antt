@@ -8,10 +8,9 @@ use mathlib.Core.List.{List}
 use Prim.Native.Nat.{ℕ, _≤_, _<_}
 use native.Mathlib.Omega.{arith}
 use lib.ListN.{length, getD, List·getD-eq-default}
-use Rattle.lemmas.proofs.Reading.{getD-default}
 use Rattle.spec.specs.Records.{Rec}
-use Rattle.kits.specs.Order.{LessAt, AnswerTo}
-use Rattle.kits.specs.Kit.{IsFull, OpenFrom, Kit, Wanted}
+use Rattle.kits.specs.Order.{AnswerTo}
+use Rattle.kits.specs.Kit.{OpenFrom, Kit, Wanted}
 use Rattle.kits.proofs.Answers.{answer-same}
 
 -- the same kits: the same lists wanted
@@ -47,15 +46,3 @@ module _ (qs : List Rec) (n : ℕ) where
 -- past the end of a sheet nothing is settled
 pub sheet-past : (s : List ℕ) → OpenFrom (length s) s
 sheet-past s b h = List·getD-eq-default s 2 {n = b} h
-
-pub full-reads : (d n : ℕ) (l : List ℕ) → length l ≡ n → ((b : ℕ) → b < n → getD l b d ≤ 1) → IsFull n l
-full-reads d n l long small =
-    record { boxes = long; bits = λ b i. omega (arith, small b i, getD-default l b 2 d (omega arith)) }
-
-pub less-reads : (d : ℕ) (l k : List ℕ) (b : ℕ) → b < length l → b < length k →
-    ((c : ℕ) → c < b → getD l c d ≡ getD k c d) → getD l b d < getD k b d → LessAt l k b
-less-reads d l k b in-l in-k same less =
-    record {
-      same = λ c i. getD-default l c 2 d (omega arith) ∙ same c i ∙ getD-default k c d 2 (omega arith);
-      less = omega (arith, getD-default l b 2 d in-l, getD-default k b 2 d in-k);
-    }

@@ -2,7 +2,7 @@
 -- Assumes nothing.
 use mathlib.Core.Path.{_≡_, refl}
 use mathlib.Core.Logic.{_⊎_, inl, inr}
-use mathlib.Core.Bool.{Bool, true≢false, true, false, not, _&&_, _||_, Bool·beq}
+use mathlib.Core.Bool.{Bool, true≢false, true, false, _&&_, _||_, Bool·beq}
 use lib.Dec.{T}
 
 pub T-true : {b : Bool} → b ≡ true → T b

@@ -1,7 +1,7 @@
 -- One turn of the search: from a filled sheet, its lowest open box and how it stands to the given list, to the answer.
 -- Assumes nothing.
 use mathlib.Core.Path.{_≡_, refl, sym, subst, _∙_}
-use mathlib.Core.Logic.{_⊎_, inl, inr, ⊎-elim}
+use mathlib.Core.Logic.{inl, inr, ⊎-elim}
 use mathlib.Core.Bool.{Bool, true, false, not, true≢false}
 use mathlib.Core.List.{List, [], _∷_}
 use Prim.Native.Nat.{ℕ, _≤_, _<_}
@@ -12,7 +12,6 @@ use lib.ListN.{length, getD, set, take, length-set}
 use Rattle.spec.specs.Records.{rulesIn}
 use Rattle.spec.specs.Fill.{openCount}
 use Rattle.spec.proofs.Named.{Good, within-good}
-use Rattle.theory.specs.Steps.{IsSheet}
 use Rattle.theory.proofs.Numbered.{rules-good}
 use Rattle.theory.proofs.Measure.{open-mono, open-set}
 use Rattle.kits.specs.Order.{AnswerTo}
@@ -21,7 +20,7 @@ use Rattle.kits.proofs.Forced.{clash-answer, filled-answer, filled-past}
 use Rattle.kits.proofs.AtRest.{rest-answer}
 use Rattle.kits.proofs.Branch.{set-sheet, set-past, branch-out, branch-in}
 use Rattle.kits.proofs.Bound.{bound-less, bound-more, bound-same}
-use Rattle.fill.specs.Moves.{Cells, Clashes, Rested}
+use Rattle.fill.specs.Moves.{Clashes, Rested}
 use Rattle.lists.proofs.look.Way.{the-type}
 use Rattle.lists.specs.Look.{LowestOpen, Stands, levelOf}
 use Rattle.lists.specs.Ready.{Ready}

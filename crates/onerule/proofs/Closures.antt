@@ -2,16 +2,14 @@
 -- Assumes nothing.
 use mathlib.Core.Logic.{_↔_}
 use mathlib.Core.Bool.{Bool}
-use mathlib.Core.List.{List, [], _∷_, List·Memᴰ, List·Memᴰ·eq-of-singleton}
-use Prim.Native.Nat.{ℕ, zero, suc, _≤_, _<_}
+use mathlib.Core.List.{[], _∷_, List·Memᴰ·eq-of-singleton}
+use Prim.Native.Nat.{ℕ, zero, suc, _<_}
 use native.Mathlib.Omega.{arith}
 use lib.Dec.{T}
-use lib.ListN.{length, getD}
-use Rattle.spec.specs.Kinds.{Place, X, Y, Z, kindOf}
-use Rattle.spec.specs.Rules.{Literal, Rule, rulesOf}
-use Rattle.spec.specs.Records.{Rec, boxAt}
+use lib.ListN.{length}
+use Rattle.spec.specs.Kinds.{Place, X, Y, Z}
+use Rattle.spec.specs.Records.{boxAt}
 use Rattle.spec.specs.Facts.{holds, Closure}
-use Rattle.spec.specs.Rounds.{closed}
 use Rattle.spec.specs.OneRule.{alone, recordOf, statesOf, outcome}
 use Rattle.spec.proofs.Codes.{Codes}
 use Rattle.spec.proofs.Named.{Within}

@@ -43,8 +43,3 @@ test-accepted maker depot l e =
 pub sheet-accepted : (sheet : List ℕ) → judge (sheetCheck sheet ∷ []) passed ≡ passed → (b : ℕ) → b < length sheet → getD sheet b 0 ≤ 2
 unfolding sheetCheck
 sheet-accepted sheet e b l = ltb-false _ _ (lowest-below _ _ b (ltb-false _ _ (judge-passes (sheetCheck sheet ∷ []) e .0)) l)
-
--- every byte of the list is at most 1
-pub list-accepted : (l : List ℕ) → judge (listCheck l ∷ []) passed ≡ passed → (b : ℕ) → b < length l → getD l b 0 ≤ 1
-unfolding listCheck
-list-accepted l e b h = ltb-false _ _ (lowest-below _ _ b (ltb-false _ _ (judge-passes (listCheck l ∷ []) e .0)) h)

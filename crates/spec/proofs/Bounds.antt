@@ -2,7 +2,7 @@
 -- Assumes nothing.
 use mathlib.Core.Path.{_≡_, refl}
 use mathlib.Core.Bool.{Bool, true, false}
-use mathlib.Core.List.{List, [], _∷_, map}
+use mathlib.Core.List.{[], _∷_, map}
 use Prim.Native.Nat.{ℕ}
 use lib.ListN.{replicate}
 use Rattle.lemmas.specs.Lowest.{lowest}
@@ -11,7 +11,7 @@ use Rattle.spec.specs.Records.{Rec, recFrom, recordAt, boxAt, boxesOf, n
 use Rattle.spec.specs.Fits.{testSays}
 use Rattle.spec.specs.Fill.{fillSays}
 use Rattle.spec.specs.Kits.{nextSays}
-use Rattle.spec.specs.Refusals.{Said, refused, Check, boxesCheck, makerCheck, depotCheck, countCheck, recordCheck, sheetCheck, givenCheck, outCheck, listCheck}
+use Rattle.spec.specs.Refusals.{refused, Check, boxesCheck, makerCheck, depotCheck, countCheck, recordCheck, sheetCheck, givenCheck, outCheck, listCheck}
 
 -- a record of kind 3 but for one field
 abbrev andRec : (kind one x y z : ℕ) → Rec

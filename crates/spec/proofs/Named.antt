@@ -1,17 +1,16 @@
 -- The rules of a kind speak only of the places that the kind names. So where a record is not bad, all boxes that its rules speak
 -- of are below n.
 -- Assumes nothing.
-use mathlib.Core.Path.{_≡_, refl, sym, ap, _∙_, subst}
+use mathlib.Core.Path.{_≡_, subst}
 use mathlib.Core.Bool.{Bool, false, not, _||_}
-use mathlib.Core.List.{List, [], _∷_, _++_, List·Memᴰ, Memᴰ·cast, Memᴰ·append-left, Memᴰ·append-right}
+use mathlib.Core.List.{List, _++_, List·Memᴰ, Memᴰ·cast, Memᴰ·append-left, Memᴰ·append-right}
 use Prim.Native.Nat.{ℕ, _<_}
-use lib.Dec.{T, leb, eqb, eqb→eq}
-use lib.ListN.{getD}
+use lib.Dec.{T, leb, eqb}
 use borrow.Author.Tests.{leb-false}
 use Rattle.lemmas.specs.Lists.{all, any}
 use Rattle.lemmas.proofs.Tests.{false-T, or-false-left, or-false-right}
 use Rattle.lemmas.proofs.Members.{all-member, any-member, any-of, map-member}
-use Rattle.spec.specs.Kinds.{Kind, Place, X, Y, Z, kindOf, placesOf}
+use Rattle.spec.specs.Kinds.{Kind, Place, kindOf, placesOf}
 use Rattle.spec.specs.Rules.{Literal, Rule, rulesOf}
 use Rattle.spec.specs.SameRule.{samePlace}
 use Rattle.spec.specs.Records.{Rec, boxAt, boxesOf, noKind, bad}

@@ -16,7 +16,7 @@ use Rattle.spec.specs.Rules.{Literal, Rule, rulesOf}
 use Rattle.spec.specs.Records.{Rec, boxAt}
 use Rattle.spec.specs.Facts.{FactsOf, HasAll, Closed, Closure, settled, fires, holds}
 use Rattle.spec.specs.Rounds.{has, names, gives, follows, code, round, rounds}
-use Rattle.spec.proofs.Least.{Inside, closure-least, closure-cut}
+use Rattle.spec.proofs.Least.{Inside, closure-cut}
 use Rattle.spec.proofs.Named.{Within}
 use Rattle.spec.proofs.Codes.{Codes, codes-below, code-small, pick, holds-code, holds-below}
 
@@ -93,10 +93,6 @@ module _ (qs : List Rec) (s : List ℕ) where
   round-rest within same q m r n premises l c =
       rw same at
       (rw (← round-holds (boxAt q (l .place)) (l .state) (within q m r n l c)) at (follows-given q m r n premises l c))
-
-  -- so it holds all that can be derived
-  pub round-complete : Within (length s) qs → round qs s ≡ s → Inside (Closure qs s) (FactsOf s)
-  round-complete within same = closure-least qs s (FactsOf s) (λ b state t. t) (round-rest within same)
 
 module _ (qs : List Rec) where
   pub rounds-length : (k : ℕ) (s : List ℕ) → length (rounds qs k s) ≡ length s

@@ -1,7 +1,7 @@
 -- The samples marked P, of the definitions that the promises cite, in one table under one statement.
 -- Assumes nothing.
 use mathlib.Core.Path.{_≡_, refl}
-use mathlib.Core.Bool.{Bool, true, false}
+use mathlib.Core.Bool.{true, false}
 use mathlib.Core.List.{List, [], _∷_, map}
 use Prim.Native.Nat.{ℕ}
 use Rattle.lemmas.specs.Lowest.{lowest}
@@ -10,7 +10,7 @@ use Rattle.spec.specs.Rules.{rulesOf}
 use Rattle.spec.specs.Records.{recFrom, recordAt, recordCount, rulesIn, boxAt, boxesOf, noKind, lacksZ, twoEqual, bad}
 use Rattle.spec.specs.Facts.{holds}
 use Rattle.spec.specs.Rounds.{has, names, gives, follows, code, round, closed}
-use Rattle.spec.specs.Refusals.{Said, refused, fits, broken, filled, list, boxesCheck, makerCheck, depotCheck, countCheck, recordCheck, sheetCheck, givenCheck, outCheck, listCheck}
+use Rattle.spec.specs.Refusals.{Said, refused, broken, filled, list, boxesCheck, makerCheck, depotCheck, countCheck, recordCheck, sheetCheck, givenCheck, outCheck, listCheck}
 use Rattle.spec.specs.Fits.{isIn, breaks, firstBroken, testSays, Part, recordPart, showsPart}
 use Rattle.spec.specs.Fill.{closureOf, clashes, boxesFilled, openCount, clashCheck, brokenCheck, fillSays, fillWrites}
 use Rattle.spec.specs.Kits.{keeps, fitsAll, kits, kitsAfter, isNone, headOf, noneCheck, firstSays, firstWrites, nextSays, nextWrites}

@@ -2,11 +2,11 @@
 -- Assumes nothing.
 use mathlib.Core.Bool.{Bool, true, false, cond, not}
 use mathlib.Core.List.{List, [], _∷_, _++_}
-use Prim.Native.Nat.{ℕ, _+_, _*_, _-_}
+use Prim.Native.Nat.{ℕ, _*_, _-_}
 use lib.Dec.{ltb, eqb}
 use lib.ListN.{length, getD, take, drop}
 use Rattle.lemmas.specs.Lowest.{lowest}
-use Rattle.spec.specs.Kinds.{Place, kindOf, meaning}
+use Rattle.spec.specs.Kinds.{kindOf, meaning}
 use Rattle.spec.specs.Records.{Rec, boxAt, recordAt, recordCount}
 use Rattle.spec.specs.Refusals.{Said, refused, passed, fits, broken, filled, list, Check, judge, tableChecks, listCheck}
 

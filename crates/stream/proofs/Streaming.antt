@@ -1,20 +1,17 @@
 -- An input of which a part is at hand: its full lines, whatever is still to come; and a line that is too long.
 -- Assumes nothing.
 use mathlib.Core.Path.{_≡_, refl, sym, _∙_, ap}
-use mathlib.Core.Bool.{Bool, true, false, cond}
+use mathlib.Core.Bool.{cond}
 use mathlib.Core.List.{List, [], _∷_, _++_, append-assoc}
 use Prim.Native.Nat.{ℕ, zero, suc, _+_, _-_, _≤_, _<_, min}
 use native.Mathlib.Omega.{arith}
-use native.Mathlib.Nat.{min-eq-left, min-eq-right, add-sub-cancel-left}
 use native.Mathlib.Decide.{decLt}
 use lib.Dec.{eqb}
 use lib.ListN.{length, take, drop, length-take, length-drop}
 use lib.Seq.{take-take, drop-drop, length-take-le}
 use Rattle.text.specs.Putting.{Put}
 use Rattle.text.proofs.Puts.{put-length, put-front}
-use Rattle.text.specs.Spelling.{ascii}
-use Rattle.calls.specs.Cuts.{cutAt, until, pieceFrom}
-use Rattle.calls.specs.Answers.{errorFor}
+use Rattle.calls.specs.Cuts.{until, pieceFrom}
 use Rattle.calls.specs.Lines.{answerOf, replyTo}
 use Rattle.stream.specs.Input.{repliesTo, outputFor, Replied}
 use Rattle.calls.proofs.Splitting.{pieces-more, piece-length}

@@ -1,7 +1,7 @@
 // Bytes put into a lent buffer, one after the other: each function answers where the next byte goes.
 ghost use mathlib.Core.Path.{_≡_};
 ghost use mathlib.Core.List.{_∷_, []};
-ghost use Prim.Native.Nat.{ℕ, _+_, _*_, _≤_, _<_};
+ghost use Prim.Native.Nat.{ℕ, _+_, _≤_, _<_};
 ghost use lib.ListN.{length, getD};
 ghost use Rattle.text.specs.Spelling.{decimal, digitsOf, hexDigit, hexPair, hexOf};
 ghost use Rattle.text.specs.Putting.{Put};

@@ -9,15 +9,11 @@ use borrow.Author.Tests.{eqb-true, not-false}
 use lib.ListN.{length}
 use Rattle.lemmas.proofs.Reading.{getD-each}
 use Rattle.spec.specs.Refusals.{Said, refused, passed, Check, judge, tableChecks, sheetCheck, outCheck, orderChecks}
-use Rattle.spec.proofs.Judge.{judge-append, judge-passes, judge-passed, judge-refused, refused-passed}
+use Rattle.spec.proofs.Judge.{judge-append, judge-passes, judge-passed, refused-passed}
 use Rattle.spec.proofs.Accepted.{Accepted, tables-accepted, sheet-accepted}
 use Rattle.theory.specs.Steps.{IsSheet}
 
 module _ (cs ds : List Check) where
-  -- the first checks refuse
-  pub judge-first : {number place : ℕ} → judge cs passed ≡ refused number place → judge (cs ++ ds) passed ≡ refused number place
-  judge-first e = judge-append cs ds passed ∙ judge-refused cs (judge ds passed) e
-
   -- the first checks pass: the others decide
   pub judge-then : (a : Said) → judge cs passed ≡ passed → judge (cs ++ ds) a ≡ judge ds a
   judge-then a e = judge-append cs ds a ∙ judge-passed cs (judge ds a) e

@@ -8,13 +8,12 @@ use Prim.Native.Nat.{ℕ, _≤_}
 use native.Mathlib.Omega.{arith}
 use native.Mathlib.Decide.{ℕ-discrete}
 use lib.Dec.{T}
-use lib.ListN.{length, getD}
+use lib.ListN.{getD}
 use Rattle.spec.specs.Records.{Rec}
 use Rattle.spec.specs.Facts.{FactsOf, Closure, Clash, settled, holds}
 use Rattle.spec.specs.Rounds.{closed}
 use Rattle.spec.proofs.Least.{Inside, closure-cut, closure-unique}
-use Rattle.spec.proofs.Named.{Within}
-use Rattle.spec.proofs.Closed.{closed-length, closed-keeps, closed-sound, closed-codes, closed-unique}
+use Rattle.spec.proofs.Closed.{closed-length, closed-keeps, closed-sound, closed-codes}
 use Rattle.theory.specs.Steps.{IsSheet, Stable, Grown}
 use Rattle.theory.proofs.States.{sheet-codes, both-holds}
 use Rattle.theory.proofs.Stability.{all-stable}
@@ -45,10 +44,6 @@ module _ {qs : List Rec} {s t : List ℕ} (st : Grown qs s t) where
     -- at rest the list holds the closure
     pub grown-rest : (b : ℕ) (state : Bool) → T (holds t b state) ↔ Closure qs s b state
     grown-rest = closure-unique qs s (FactsOf t) (st .keeps) (all-stable qs t stable) (st .derived)
-
-    pub grown-closed : IsSheet s → Within (length s) qs → t ≡ closed qs s
-    grown-closed sheet within =
-        closed-unique qs s (sheet-codes s sheet) within t (sheet-codes t (st .sheet)) (st .size) grown-rest
 
 -- without a clash the closure is a sheet, grown from the first
 pub closed-grown : (qs : List Rec) (s : List ℕ) → IsSheet s → ((b : ℕ) → Clash qs s b → ⊥) → Grown qs s (closed qs s)

@@ -1,6 +1,6 @@
 -- Whether a record is stable is a matter of the states of the boxes that it names, and of its kind.
 -- Assumes nothing.
-use mathlib.Core.Path.{_≡_, refl, sym, subst⁻¹}
+use mathlib.Core.Path.{_≡_, refl, subst⁻¹}
 use mathlib.Core.List.{List, [], _∷_, List·Memᴰ, List·Memᴰ·head, List·Memᴰ·eq-of-singleton, Memᴰ·append-left, Memᴰ·append-right}
 use Prim.Native.Nat.{ℕ}
 use lib.ListN.{getD}
@@ -38,8 +38,3 @@ stable-moved q q′ s t kind same stable =
     facts : (r : Rule) → List·Memᴰ r (rulesOf (kindOf (q′ .kind))) → (l : Literal) → List·Memᴰ l (spoken r) →
         holds s (boxAt q (l .place)) (l .state) ≡ holds t (boxAt q′ (l .place)) (l .state)
     facts r n l c = holds-same s t _ _ (same (l .place) (spoken-named (q .kind) r (rw kind n) l c)) (l .state)
-
--- a record is stable still where the boxes that it names are as they were
-pub stable-kept : (q : Rec) (s t : List ℕ) → ((p : Place) → Names q p → getD t (boxAt q p) 2 ≡ getD s (boxAt q p) 2) →
-    Stable q s → Stable q t
-stable-kept q s t same = stable-moved q q s t refl (λ p m. sym (same p m))

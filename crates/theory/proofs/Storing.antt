@@ -1,7 +1,7 @@
 -- The list with a record's new states stored: the boxes that the record names hold them, and no other box changes.
 -- Assumes nothing.
 use mathlib.Core.Path.{_≡_, refl, _∙_}
-use mathlib.Core.Logic.{_⊎_, inl, inr, ⊎-elim}
+use mathlib.Core.Logic.{_⊎_, inl, inr}
 use mathlib.Core.Bool.{Bool, true, false, cond}
 use mathlib.Core.List.{List, [], _∷_}
 use Prim.Native.Nat.{ℕ, _≤_, _<_}
@@ -83,9 +83,6 @@ module _ (q : Rec) (x′ y′ z′ : ℕ) (s : List ℕ) where
         go (no ¬x) (no ¬y) dz true et = inr (pair-other ¬x ¬y)
         go (no ¬x) (no ¬y) (yes e) false et = inl (Z, names-z et, e)
         go (no ¬x) (no ¬y) (no ¬z) false et = inr (getD-set-other pair (q .z) b z′ 2 ¬z ∙ pair-other ¬x ¬y)
-
-    pub step-own : (b : ℕ) → ((p : Place) → Names q p → b ≡ boxAt q p → ⊥) → getD (stepped q x′ y′ z′ s) b 2 ≡ getD s b 2
-    step-own b other = ⊎-elim (λ found. absurd (other (found .0) (found .1) (found .2))) (λ e. e) (step-cases b)
 
     module _ (room : n ≤ length s) where
       below : (p : Place) → Names q p → boxAt q p < length s

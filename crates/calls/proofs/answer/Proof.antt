@@ -10,21 +10,11 @@ use lib.Seq.{length-take-le}
 use Rattle.lemmas.specs.Lists.{all}
 use Rattle.calls.specs.Fields.{fieldsOf, isField}
 use Rattle.calls.specs.Lines.{isKnown, arity, lineWord}
-use Rattle.calls.specs.Answers.{answerTo}
 use Rattle.calls.proofs.Splitting.{end-below}
 use Rattle.calls.proofs.Answering.{known-word, arity-most, line-word, answer-long, answer-word, answer-fields, answer-digits, answer-call, after-within, after-word, after-has}
 use borrow.Author.Needs.{needs}
 use Rattle.calls.proofs.answer.Statement.{statement}
 use Rattle.calls.proofs.answer.Tie as tie
-use Rattle.calls.proofs.answer.Reads as reads
-use Rattle.calls.proofs.answer.Lts as lts
-use Rattle.calls.proofs.call.call.Reads as call-reads
-use Rattle.calls.proofs.field.are_fields.Reads as are-fields-reads
-use Rattle.calls.proofs.cut.count_pieces.Reads as count-pieces-reads
-use Rattle.calls.proofs.cut.end_of.Reads as end-of-reads
-use Rattle.calls.proofs.say.put_error.Reads as put-error-reads
-use Rattle.calls.proofs.word.arity_of.Reads as arity-of-reads
-use Rattle.calls.proofs.word.word_of.Reads as word-of-reads
 
 -- the word that the line begins with
 word-is : (c : tie.After-word-of) → lineWord (c .before .before .before .before .before .before .before .before .args .line .now) ≡ c .word-of .result

@@ -6,10 +6,6 @@ use Rattle.calls.proofs.Answering.{reply-empty, reply-comment, reply-an
 use borrow.Author.Needs.{needs}
 use Rattle.calls.proofs.reply.Statement.{statement}
 use Rattle.calls.proofs.reply.Tie as tie
-use Rattle.calls.proofs.reply.Reads as reads
-use Rattle.calls.proofs.reply.Lts as lts
-use Rattle.calls.proofs.answer.Reads as answer-reads
-use Rattle.text.proofs.put_byte.Reads as put-byte-reads
 
 returns : tie.Need-returns
 returns c = rw (reply-empty _ (c .if1 .taken)) (record { puts = put-none; short = omega arith })

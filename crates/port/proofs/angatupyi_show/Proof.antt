@@ -1,6 +1,6 @@
 -- `port::angatupyi_show` meets its contract: Test's answer tells where the part lies.
 -- Assumes nothing.
-use mathlib.Core.Path.{_≡_, _∙_, ap}
+use mathlib.Core.Path.{_≡_}
 use native.Mathlib.Omega.{arith}
 use borrow.Author.Needs.{needs}
 use Rattle.spec.specs.Fits.{testSays}

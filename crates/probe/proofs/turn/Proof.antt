@@ -1,17 +1,9 @@
 -- `probe::turn` meets its contract: where nothing is passed over, there is room to read more.
 -- Assumes nothing.
-use native.Mathlib.Omega.{arith}
 use Rattle.probe.proofs.Rooms.{room-kept, hand-short}
 use borrow.Author.Needs.{needs}
 use Rattle.probe.proofs.turn.Statement.{statement}
 use Rattle.probe.proofs.turn.Tie as tie
-use Rattle.probe.proofs.turn.Reads as reads
-use Rattle.probe.proofs.turn.Lts as lts
-use Rattle.probe.proofs.read_more.Reads as read-more-reads
-use Rattle.probe.proofs.stop.Reads as stop-reads
-use Rattle.probe.proofs.write.Reads as write-reads
-use Rattle.stream.proofs.advance.Reads as advance-reads
-use Rattle.stream.proofs.keep.Reads as keep-reads
 
 sub-advance : tie.Need-sub-advance
 sub-advance c = search needs

@@ -9,9 +9,6 @@ use lib.ListN.{length}
 use Rattle.probe.proofs.Rooms.{room-kept}
 use Rattle.probe.proofs.turns.Statement.{statement}
 use Rattle.probe.proofs.turns.Tie as tie
-use Rattle.probe.proofs.turns.Reads as reads
-use Rattle.probe.proofs.turns.Lts as lts
-use Rattle.probe.proofs.turn.Reads as turn-reads
 
 abbrev Inv-loop : tie.InvT-loop
 Inv-loop input₀ bytes₀ out₀ text₀ hand₀ left₀ input bytes out text hand left =

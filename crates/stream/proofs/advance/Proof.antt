@@ -9,12 +9,6 @@ use Rattle.stream.proofs.Lines.{step-replies, step-wait, step-long, cut
 use borrow.Author.Needs.{needs}
 use Rattle.stream.proofs.advance.Statement.{statement}
 use Rattle.stream.proofs.advance.Tie as tie
-use Rattle.stream.proofs.advance.Reads as reads
-use Rattle.stream.proofs.advance.Lts as lts
-use Rattle.calls.proofs.cut.end_of.Reads as end-of-reads
-use Rattle.stream.proofs.replies.Reads as replies-reads
-use Rattle.stream.proofs.skip.Reads as skip-reads
-use Rattle.calls.proofs.reply.Reads as reply-reads
 
 -- no line feed is at hand
 no-feed : (c : tie.Else2) → until 10 (c .before .before .before .before .before .before .before .args .input .now) ≡ length (c .before .before .before .before .before .before .before .args .input .now)

@@ -5,9 +5,6 @@ use Rattle.stream.proofs.Lines.{finish-line}
 use borrow.Author.Needs.{needs}
 use Rattle.stream.proofs.finish.Statement.{statement}
 use Rattle.stream.proofs.finish.Tie as tie
-use Rattle.stream.proofs.finish.Reads as reads
-use Rattle.stream.proofs.finish.Lts as lts
-use Rattle.calls.proofs.reply.Reads as reply-reads
 
 reply-requires : tie.Need-reply-requires
 reply-requires c κs = search needs

@@ -1,19 +1,13 @@
 -- `stream::replies` meets its contract. The loop's invariant: the full lines passed are answered.
 -- Assumes nothing.
-use mathlib.Core.Path.{_≡_, refl, sym, _∙_, ap}
-use Prim.Native.Nat.{_+_, _-_, _≤_, _<_}
+use mathlib.Core.Path.{_≡_, refl, _∙_}
+use Prim.Native.Nat.{_-_, _<_}
 use native.Mathlib.Omega.{arith}
-use borrow.Author.Needs.{needs}
 use lib.ListN.{length}
 use Rattle.calls.proofs.Splitting.{end-below}
 use Rattle.stream.proofs.Streaming.{Replying, replying-start, replying-next, replying-done, cut-size}
 use Rattle.stream.proofs.replies.Statement.{statement}
 use Rattle.stream.proofs.replies.Tie as tie
-use Rattle.stream.proofs.replies.Reads as reads
-use Rattle.stream.proofs.replies.Lts as lts
-use Rattle.calls.proofs.cut.end_of.Reads as end-of-reads
-use Rattle.stream.proofs.cut_end.Reads as cut-end-reads
-use Rattle.calls.proofs.reply.Reads as reply-reads
 
 abbrev Inv-loop : tie.InvT-loop
 Inv-loop input bytes₀ out₀ text₀ from₀ at₀ bytes out text from at =

@@ -1,6 +1,5 @@
 -- `stream::skip` meets its contract: the line that is already answered ends here, or goes on.
 -- Assumes nothing.
-use mathlib.Core.Path.{_≡_, _∙_}
 use Prim.Native.Nat.{_<_}
 use native.Mathlib.Omega.{arith}
 use lib.ListN.{length}
@@ -10,9 +9,6 @@ use Rattle.stream.proofs.Lines.{skip-on, skip-end}
 use borrow.Author.Needs.{needs}
 use Rattle.stream.proofs.skip.Statement.{statement}
 use Rattle.stream.proofs.skip.Tie as tie
-use Rattle.stream.proofs.skip.Reads as reads
-use Rattle.stream.proofs.skip.Lts as lts
-use Rattle.calls.proofs.cut.end_of.Reads as end-of-reads
 
 end-of-requires : tie.Need-end-of-requires
 end-of-requires c κs = search needs

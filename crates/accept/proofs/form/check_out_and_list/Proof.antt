@@ -3,7 +3,6 @@
 use mathlib.Core.Path.{sym, ap, _∙_}
 use mathlib.Core.List.{[], _∷_}
 use borrow.Author.Needs.{needs}
-use lib.ListN.{length}
 use Rattle.spec.specs.Refusals.{outCheck, listCheck}
 use Rattle.accept.specs.Form.{formSays}
 use Rattle.accept.proofs.Refused.{chain-refused, chain-passed}

@@ -1,7 +1,6 @@
 -- `accept::form::first_above` meets its contract: no byte passed is above `top`.
 -- Assumes nothing.
-use mathlib.Core.Bool.{Bool}
-use Prim.Native.Nat.{ℕ, _-_}
+use Prim.Native.Nat.{_-_}
 use borrow.Author.Needs.{needs}
 use borrow.Author.Tests.{lt-ltb, le-ltb}
 use lib.Dec.{ltb}

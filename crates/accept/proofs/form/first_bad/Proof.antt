@@ -1,8 +1,7 @@
 -- `accept::form::first_bad` meets its contract: no record passed is bad.
 -- Assumes nothing.
 use mathlib.Core.Path.{_≡_, refl, sym, _∙_, ap}
-use mathlib.Core.Bool.{Bool}
-use Prim.Native.Nat.{ℕ, _-_}
+use Prim.Native.Nat.{_-_}
 use native.Mathlib.Omega.{arith}
 use borrow.Author.Needs.{needs}
 use Rattle.lemmas.proofs.Lowest.{Searched, searched-start, searched-next, searched-found, searched-all}

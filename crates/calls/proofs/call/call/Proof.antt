@@ -5,13 +5,6 @@ use Rattle.text.proofs.Puts.{put-none}
 use borrow.Author.Needs.{needs}
 use Rattle.calls.proofs.call.call.Statement.{statement}
 use Rattle.calls.proofs.call.call.Tie as tie
-use Rattle.calls.proofs.call.call.Reads as reads
-use Rattle.calls.proofs.call.call.Lts as lts
-use Rattle.calls.proofs.call.call_fill.Reads as call-fill-reads
-use Rattle.calls.proofs.call.call_first.Reads as call-first-reads
-use Rattle.calls.proofs.call.call_next.Reads as call-next-reads
-use Rattle.calls.proofs.call.call_show.Reads as call-show-reads
-use Rattle.calls.proofs.call.call_test.Reads as call-test-reads
 
 enum-told : tie.Need-enum-told
 enum-told c = search needs

@@ -1,6 +1,6 @@
 -- `calls::call::call_first` meets its contract: the parts are those of the fields.
 -- Assumes nothing.
-use mathlib.Core.Path.{_≡_, sym, _∙_, ap}
+use mathlib.Core.Path.{sym, _∙_, ap}
 use Prim.Native.Nat.{_≤_}
 use native.Mathlib.Omega.{arith}
 use lib.ListN.{length}
@@ -12,11 +12,6 @@ use Rattle.calls.proofs.Held.{three-order, three-held, has-rest, fourth
 use borrow.Author.Needs.{needs}
 use Rattle.calls.proofs.call.call_first.Statement.{statement}
 use Rattle.calls.proofs.call.call_first.Tie as tie
-use Rattle.calls.proofs.call.call_first.Reads as reads
-use Rattle.calls.proofs.call.call_first.Lts as lts
-use Rattle.calls.proofs.operation.answer_first.Reads as answer-first-reads
-use Rattle.calls.proofs.parts.next_part.Reads as next-part-reads
-use Rattle.calls.proofs.parts.take_parts.Reads as take-parts-reads
 
 -- the out buffer's field is the last
 has-one : (c : tie.After-next-part) → HasFields (c .before .before .before .before .before .before .before .before .before .before .args .line .now) (c .before .before .before .before .take-parts .result .from) 1

@@ -1,6 +1,6 @@
 -- `calls::call::call_next` meets its contract: the parts are those of the fields.
 -- Assumes nothing.
-use mathlib.Core.Path.{_≡_, sym, _∙_, ap}
+use mathlib.Core.Path.{sym, _∙_, ap}
 use Prim.Native.Nat.{_≤_}
 use native.Mathlib.Omega.{arith}
 use lib.ListN.{length}
@@ -12,11 +12,6 @@ use Rattle.calls.proofs.Held.{four-held, four-order, four-given, has-re
 use borrow.Author.Needs.{needs}
 use Rattle.calls.proofs.call.call_next.Statement.{statement}
 use Rattle.calls.proofs.call.call_next.Tie as tie
-use Rattle.calls.proofs.call.call_next.Reads as reads
-use Rattle.calls.proofs.call.call_next.Lts as lts
-use Rattle.calls.proofs.operation.answer_next.Reads as answer-next-reads
-use Rattle.calls.proofs.parts.next_part.Reads as next-part-reads
-use Rattle.calls.proofs.parts.take_parts.Reads as take-parts-reads
 
 -- the given list's field and the out buffer's are left
 has-two : (c : tie.After-take-parts) → HasFields (c .before .before .before .before .before .before .args .line .now) (c .take-parts .result .from) 2

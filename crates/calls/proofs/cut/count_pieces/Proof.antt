@@ -1,6 +1,6 @@
 -- `calls::cut::count_pieces` meets its contract: what is counted and what is left are all the fields.
 -- Assumes nothing.
-use mathlib.Core.Path.{_≡_, refl}
+use mathlib.Core.Path.{_≡_}
 use mathlib.Core.Logic.{⊎-elim}
 use Prim.Native.Nat.{_+_, _-_, _≤_}
 use native.Mathlib.Omega.{arith}
@@ -10,8 +10,6 @@ use Rattle.calls.specs.Cuts.{cutAt}
 use Rattle.calls.proofs.Scanning.{pieces-mark, pieces-other, pieces-end}
 use Rattle.calls.proofs.cut.count_pieces.Statement.{statement}
 use Rattle.calls.proofs.cut.count_pieces.Tie as tie
-use Rattle.calls.proofs.cut.count_pieces.Reads as reads
-use Rattle.calls.proofs.cut.count_pieces.Lts as lts
 
 abbrev Inv-loop : tie.InvT-loop
 Inv-loop s mark n₀ i₀ n i =

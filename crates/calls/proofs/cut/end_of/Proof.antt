@@ -9,8 +9,6 @@ use Rattle.calls.specs.Cuts.{until}
 use Rattle.calls.proofs.Scanning.{until-mark, until-other, until-end}
 use Rattle.calls.proofs.cut.end_of.Statement.{statement}
 use Rattle.calls.proofs.cut.end_of.Tie as tie
-use Rattle.calls.proofs.cut.end_of.Reads as reads
-use Rattle.calls.proofs.cut.end_of.Lts as lts
 
 abbrev Inv-loop : tie.InvT-loop
 Inv-loop s from mark i₀ i =

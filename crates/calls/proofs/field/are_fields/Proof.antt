@@ -1,7 +1,7 @@
 -- `calls::field::are_fields` meets its contract: the fields passed are right, and the others are left.
 -- Assumes nothing.
 use mathlib.Core.Path.{_≡_, refl, sym, _∙_, ap}
-use Prim.Native.Nat.{_+_, _-_, _≤_, _<_}
+use Prim.Native.Nat.{_-_, _≤_, _<_}
 use native.Mathlib.Omega.{arith}
 use borrow.Author.Needs.{needs}
 use borrow.Author.Tests.{not-true, not-false}
@@ -12,10 +12,6 @@ use Rattle.calls.proofs.Splitting.{end-below, piece-part, split-more, s
 use Rattle.calls.proofs.Pieces.{first-wrong}
 use Rattle.calls.proofs.field.are_fields.Statement.{statement}
 use Rattle.calls.proofs.field.are_fields.Tie as tie
-use Rattle.calls.proofs.field.are_fields.Reads as reads
-use Rattle.calls.proofs.field.are_fields.Lts as lts
-use Rattle.calls.proofs.cut.end_of.Reads as end-of-reads
-use Rattle.calls.proofs.field.is_field.Reads as is-field-reads
 
 abbrev Inv-loop : tie.InvT-loop
 Inv-loop line from start₀ start =

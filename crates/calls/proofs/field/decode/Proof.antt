@@ -1,6 +1,5 @@
 -- `calls::field::decode` meets its contract. The loop's invariant: what is left to put makes the whole.
 -- Assumes nothing.
-use mathlib.Core.Path.{_≡_}
 use Prim.Native.Nat.{_+_, _-_, _<_}
 use native.Mathlib.Omega.{arith}
 use borrow.Author.Needs.{needs}
@@ -9,9 +8,6 @@ use Rattle.calls.specs.Fields.{digitOf}
 use Rattle.calls.proofs.Decoding.{Decoding, field-digit, decoding-start, decoding-all, decoding-next}
 use Rattle.calls.proofs.field.decode.Statement.{statement}
 use Rattle.calls.proofs.field.decode.Tie as tie
-use Rattle.calls.proofs.field.decode.Reads as reads
-use Rattle.calls.proofs.field.decode.Lts as lts
-use Rattle.calls.proofs.field.digit_of.Reads as digit-of-reads
 
 abbrev Inv-loop : tie.InvT-loop
 Inv-loop field bytes₀ at next₀ i₀ bytes next i = Decoding field bytes₀ at bytes next i

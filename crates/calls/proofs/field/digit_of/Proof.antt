@@ -1,15 +1,10 @@
 -- `calls::field::digit_of` meets its contract: the digits are two ranges of characters.
 -- Assumes nothing.
-use mathlib.Core.Path.{_∙_}
-use Prim.Native.Nat.{_<_}
-use native.Mathlib.Omega.{arith}
 use borrow.Author.Needs.{needs}
 use borrow.Author.Tests.{lt-ltb, le-ltb}
 use Rattle.calls.proofs.Digits.{digit-ranged}
 use Rattle.calls.proofs.field.digit_of.Statement.{statement}
 use Rattle.calls.proofs.field.digit_of.Tie as tie
-use Rattle.calls.proofs.field.digit_of.Reads as reads
-use Rattle.calls.proofs.field.digit_of.Lts as lts
 
 returns : tie.Need-returns
 returns c = rw (digit-ranged (c .before .args .c) (search needs), lt-ltb _ _ (c .if1 .taken))

@@ -1,7 +1,7 @@
 -- `calls::field::is_field` meets its contract: the length is looked at first, and then each character.
 -- Assumes nothing.
 use mathlib.Core.Path.{_≡_, refl, sym, _∙_}
-use Prim.Native.Nat.{_+_, _-_, _≤_, _<_}
+use Prim.Native.Nat.{_-_, _≤_}
 use native.Mathlib.Omega.{arith}
 use borrow.Author.Needs.{needs}
 use lib.ListN.{length, drop, drop-of-length-le}
@@ -10,9 +10,6 @@ use Rattle.calls.specs.Fields.{isDigit, isField}
 use Rattle.calls.proofs.Decoding.{field-none, field-dot, field-single, field-odd, field-even, digit-wrong, digit-right}
 use Rattle.calls.proofs.field.is_field.Statement.{statement}
 use Rattle.calls.proofs.field.is_field.Tie as tie
-use Rattle.calls.proofs.field.is_field.Reads as reads
-use Rattle.calls.proofs.field.is_field.Lts as lts
-use Rattle.calls.proofs.field.digit_of.Reads as digit-of-reads
 
 abbrev Inv-loop : tie.InvT-loop
 Inv-loop field i₀ i = (i ≤ length field) × (all isDigit field ≡ all isDigit (drop i field))

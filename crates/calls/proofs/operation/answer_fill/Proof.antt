@@ -6,11 +6,6 @@ use Rattle.calls.proofs.Pieces.{maker-length}
 use borrow.Author.Needs.{needs}
 use Rattle.calls.proofs.operation.answer_fill.Statement.{statement}
 use Rattle.calls.proofs.operation.answer_fill.Tie as tie
-use Rattle.calls.proofs.operation.answer_fill.Reads as reads
-use Rattle.calls.proofs.operation.answer_fill.Lts as lts
-use Rattle.calls.proofs.say.put_buffer.Reads as put-buffer-reads
-use Rattle.calls.proofs.say.put_filled.Reads as put-filled-reads
-use Rattle.fill.proofs.operation.fill.Reads as fill-reads
 
 slice-aggregate-fill : tie.Need-slice-aggregate-fill
 slice-aggregate-fill c = let start = c .before .before .before .before in maker-length (start .args .bytes .now) (start .args .p) (start .pre .0)

@@ -6,11 +6,6 @@ use Rattle.calls.proofs.Pieces.{maker-length}
 use borrow.Author.Needs.{needs}
 use Rattle.calls.proofs.operation.answer_first.Statement.{statement}
 use Rattle.calls.proofs.operation.answer_first.Tie as tie
-use Rattle.calls.proofs.operation.answer_first.Reads as reads
-use Rattle.calls.proofs.operation.answer_first.Lts as lts
-use Rattle.calls.proofs.say.put_buffer.Reads as put-buffer-reads
-use Rattle.calls.proofs.say.put_listed.Reads as put-listed-reads
-use Rattle.lists.proofs.operation.first.Reads as first-reads
 
 slice-aggregate-first : tie.Need-slice-aggregate-first
 slice-aggregate-first c = let start = c .before .before .before .before in maker-length (start .args .bytes .now) (start .args .p) (start .pre .0)

@@ -6,11 +6,6 @@ use Rattle.calls.proofs.Pieces.{maker-length}
 use borrow.Author.Needs.{needs}
 use Rattle.calls.proofs.operation.answer_next.Statement.{statement}
 use Rattle.calls.proofs.operation.answer_next.Tie as tie
-use Rattle.calls.proofs.operation.answer_next.Reads as reads
-use Rattle.calls.proofs.operation.answer_next.Lts as lts
-use Rattle.calls.proofs.say.put_buffer.Reads as put-buffer-reads
-use Rattle.calls.proofs.say.put_listed.Reads as put-listed-reads
-use Rattle.lists.proofs.operation.next.Reads as next-reads
 
 slice-aggregate-next : tie.Need-slice-aggregate-next
 slice-aggregate-next c = let start = c .before .before .before .before in maker-length (start .args .bytes .now) (start .args .p) (start .pre .0 .0)

@@ -11,11 +11,6 @@ use Rattle.calls.proofs.Pieces.{maker-length}
 use borrow.Author.Needs.{needs}
 use Rattle.calls.proofs.operation.answer_show.Statement.{statement}
 use Rattle.calls.proofs.operation.answer_show.Tie as tie
-use Rattle.calls.proofs.operation.answer_show.Reads as reads
-use Rattle.calls.proofs.operation.answer_show.Lts as lts
-use Rattle.fits.proofs.show.Reads as show-reads
-use Rattle.text.proofs.put_bytes.Reads as put-bytes-reads
-use Rattle.text.proofs.put_hex.Reads as put-hex-reads
 
 slice-aggregate-show : tie.Need-slice-aggregate-show
 slice-aggregate-show c = let start = c .before .before .before in maker-length (start .args .bytes .now) (start .args .p) (start .pre .0)

@@ -4,10 +4,6 @@ use Rattle.calls.proofs.Pieces.{maker-length}
 use borrow.Author.Needs.{needs}
 use Rattle.calls.proofs.operation.answer_test.Statement.{statement}
 use Rattle.calls.proofs.operation.answer_test.Tie as tie
-use Rattle.calls.proofs.operation.answer_test.Reads as reads
-use Rattle.calls.proofs.operation.answer_test.Lts as lts
-use Rattle.calls.proofs.say.put_tested.Reads as put-tested-reads
-use Rattle.fits.proofs.test.Reads as test-reads
 
 slice-aggregate-test : tie.Need-slice-aggregate-test
 slice-aggregate-test c = let start = c .before .before .before in maker-length (start .args .bytes .now) (start .args .p) (start .pre .0)

@@ -9,10 +9,6 @@ use Rattle.calls.proofs.Pieces.{bytes-half}
 use borrow.Author.Needs.{needs}
 use Rattle.calls.proofs.parts.next_part.Statement.{statement}
 use Rattle.calls.proofs.parts.next_part.Tie as tie
-use Rattle.calls.proofs.parts.next_part.Reads as reads
-use Rattle.calls.proofs.parts.next_part.Lts as lts
-use Rattle.calls.proofs.field.decode.Reads as decode-reads
-use Rattle.calls.proofs.cut.end_of.Reads as end-of-reads
 
 end-of-requires : tie.Need-end-of-requires
 end-of-requires c κs = search needs

@@ -7,9 +7,6 @@ use Rattle.calls.proofs.Taking.{three-parts}
 use borrow.Author.Needs.{needs}
 use Rattle.calls.proofs.parts.take_parts.Statement.{statement}
 use Rattle.calls.proofs.parts.take_parts.Tie as tie
-use Rattle.calls.proofs.parts.take_parts.Reads as reads
-use Rattle.calls.proofs.parts.take_parts.Lts as lts
-use Rattle.calls.proofs.parts.next_part.Reads as next-part-reads
 
 next-part-requires : tie.Need-next-part-requires
 next-part-requires c κs =

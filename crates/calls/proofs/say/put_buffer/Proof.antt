@@ -6,10 +6,6 @@ use Rattle.calls.proofs.Saying.{hex-length}
 use borrow.Author.Needs.{needs}
 use Rattle.calls.proofs.say.put_buffer.Statement.{statement}
 use Rattle.calls.proofs.say.put_buffer.Tie as tie
-use Rattle.calls.proofs.say.put_buffer.Reads as reads
-use Rattle.calls.proofs.say.put_buffer.Lts as lts
-use Rattle.text.proofs.put_byte.Reads as put-byte-reads
-use Rattle.text.proofs.put_hex.Reads as put-hex-reads
 
 put-byte-requires : tie.Need-put-byte-requires
 put-byte-requires c κs = search needs

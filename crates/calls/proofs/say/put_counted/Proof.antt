@@ -6,10 +6,6 @@ use Rattle.calls.proofs.Saying.{decimal-short-enough}
 use borrow.Author.Needs.{needs}
 use Rattle.calls.proofs.say.put_counted.Statement.{statement}
 use Rattle.calls.proofs.say.put_counted.Tie as tie
-use Rattle.calls.proofs.say.put_counted.Reads as reads
-use Rattle.calls.proofs.say.put_counted.Lts as lts
-use Rattle.text.proofs.put_bytes.Reads as put-bytes-reads
-use Rattle.text.proofs.put_decimal.Reads as put-decimal-reads
 
 put-bytes-requires : tie.Need-put-bytes-requires
 put-bytes-requires c κs = search needs

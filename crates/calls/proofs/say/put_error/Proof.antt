@@ -4,9 +4,6 @@ use Rattle.text.proofs.Puts.{put-then}
 use borrow.Author.Needs.{needs}
 use Rattle.calls.proofs.say.put_error.Statement.{statement}
 use Rattle.calls.proofs.say.put_error.Tie as tie
-use Rattle.calls.proofs.say.put_error.Reads as reads
-use Rattle.calls.proofs.say.put_error.Lts as lts
-use Rattle.text.proofs.put_bytes.Reads as put-bytes-reads
 
 slice-aggregate-put-bytes : tie.Need-slice-aggregate-put-bytes
 slice-aggregate-put-bytes c = search needs

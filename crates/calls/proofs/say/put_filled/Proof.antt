@@ -6,11 +6,6 @@ use Rattle.calls.proofs.Saying.{code-refused, filled-done}
 use borrow.Author.Needs.{needs}
 use Rattle.calls.proofs.say.put_filled.Statement.{statement}
 use Rattle.calls.proofs.say.put_filled.Tie as tie
-use Rattle.calls.proofs.say.put_filled.Reads as reads
-use Rattle.calls.proofs.say.put_filled.Lts as lts
-use Rattle.calls.proofs.say.put_counted.Reads as put-counted-reads
-use Rattle.calls.proofs.say.put_refused.Reads as put-refused-reads
-use Rattle.numbers.proofs.of_filled.Reads as of-filled-reads
 
 of-filled-requires : tie.Need-of-filled-requires
 of-filled-requires c κs = search needs

@@ -6,11 +6,6 @@ use Rattle.calls.proofs.Saying.{code-refused, listed-done}
 use borrow.Author.Needs.{needs}
 use Rattle.calls.proofs.say.put_listed.Statement.{statement}
 use Rattle.calls.proofs.say.put_listed.Tie as tie
-use Rattle.calls.proofs.say.put_listed.Reads as reads
-use Rattle.calls.proofs.say.put_listed.Lts as lts
-use Rattle.calls.proofs.say.put_refused.Reads as put-refused-reads
-use Rattle.numbers.proofs.of_listed.Reads as of-listed-reads
-use Rattle.text.proofs.put_bytes.Reads as put-bytes-reads
 
 of-listed-requires : tie.Need-of-listed-requires
 of-listed-requires c κs = search needs

@@ -6,11 +6,6 @@ use Rattle.calls.proofs.Saying.{decimal-short-enough}
 use borrow.Author.Needs.{needs}
 use Rattle.calls.proofs.say.put_refused.Statement.{statement}
 use Rattle.calls.proofs.say.put_refused.Tie as tie
-use Rattle.calls.proofs.say.put_refused.Reads as reads
-use Rattle.calls.proofs.say.put_refused.Lts as lts
-use Rattle.calls.proofs.say.put_counted.Reads as put-counted-reads
-use Rattle.text.proofs.put_byte.Reads as put-byte-reads
-use Rattle.text.proofs.put_decimal.Reads as put-decimal-reads
 
 slice-aggregate-put-counted : tie.Need-slice-aggregate-put-counted
 slice-aggregate-put-counted c = search needs

@@ -6,12 +6,6 @@ use Rattle.calls.proofs.Saying.{code-refused, code-broken, tested-done}
 use borrow.Author.Needs.{needs}
 use Rattle.calls.proofs.say.put_tested.Statement.{statement}
 use Rattle.calls.proofs.say.put_tested.Tie as tie
-use Rattle.calls.proofs.say.put_tested.Reads as reads
-use Rattle.calls.proofs.say.put_tested.Lts as lts
-use Rattle.calls.proofs.say.put_counted.Reads as put-counted-reads
-use Rattle.calls.proofs.say.put_refused.Reads as put-refused-reads
-use Rattle.numbers.proofs.of_tested.Reads as of-tested-reads
-use Rattle.text.proofs.put_bytes.Reads as put-bytes-reads
 
 of-tested-requires : tie.Need-of-tested-requires
 of-tested-requires c κs = search needs

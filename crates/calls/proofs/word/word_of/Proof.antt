@@ -6,9 +6,6 @@ use Rattle.calls.specs.Words.{is, wordOf}
 use Rattle.calls.proofs.Texts.{same-flag}
 use Rattle.calls.proofs.word.word_of.Statement.{statement}
 use Rattle.calls.proofs.word.word_of.Tie as tie
-use Rattle.calls.proofs.word.word_of.Reads as reads
-use Rattle.calls.proofs.word.word_of.Lts as lts
-use Rattle.check.proofs.same.Reads as same-reads
 
 slice-aggregate-same : tie.Need-slice-aggregate-same
 slice-aggregate-same c = search needs

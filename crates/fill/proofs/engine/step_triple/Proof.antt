@@ -1,15 +1,14 @@
 -- `fill::engine::step_triple` meets its contract: a record with three boxes has its turn.
 -- Assumes nothing.
-use mathlib.Core.Path.{_≡_, sym, subst, _∙_}
+use mathlib.Core.Path.{sym, subst, _∙_}
 use mathlib.Core.List.{List, [], _∷_}
 use Prim.Native.Nat.{ℕ}
 use native.Mathlib.Omega.{arith}
 use Rattle.lemmas.proofs.Reading.{getD-default}
 use Rattle.accept.specs.Record.{asRec}
-use Rattle.fire.specs.States.{OnSheet}
 use Rattle.theory.proofs.Stepping.{Turn, turn-sheet, step-clash}
 use Rattle.theory.specs.Steps.{IsSheet}
-use Rattle.fill.specs.Moves.{Cells, Stepped}
+use Rattle.fill.specs.Moves.{Stepped}
 use Rattle.fill.specs.declared.engine.Move.the-variants.{Still, Moved}
 use lib.ListN.{getD}
 use Rattle.fill.proofs.Turns.{x-below, y-below, z-below, triple-state, turn-of, moved-x, moved-y, moved-z, turn-still, stored-triple}

@@ -1,12 +1,12 @@
 -- `lists::look::compare` meets its contract: at every box passed the two are the same.
 -- Assumes nothing.
-use mathlib.Core.Path.{_≡_, refl, sym, _∙_}
+use mathlib.Core.Path.{_≡_, refl, sym}
 use mathlib.Core.Logic.{inr}
 use Prim.Native.Nat.{ℕ, _-_, _≤_, _<_}
 use native.Mathlib.Omega.{arith}
 use borrow.Author.Needs.{needs}
 use borrow.Author.Count.{below-none, below-more}
-use lib.ListN.{length, getD}
+use lib.ListN.{getD}
 use Rattle.lemmas.proofs.Reading.{getD-default}
 use Rattle.lists.proofs.look.compare.Statement.{statement}
 use Rattle.lists.proofs.look.compare.Tie as tie

@@ -5,7 +5,7 @@ use Prim.Native.Nat.{ℕ, _-_, _≤_, _<_}
 use native.Mathlib.Omega.{arith}
 use borrow.Author.Needs.{needs}
 use borrow.Author.Count.{below-none, below-more}
-use lib.ListN.{length, getD}
+use lib.ListN.{getD}
 use Rattle.lemmas.proofs.Reading.{getD-default}
 use Rattle.lists.proofs.look.lowest_open.Statement.{statement}
 use Rattle.lists.proofs.look.lowest_open.Tie as tie

@@ -8,8 +8,6 @@ use lib.ListN.{length}
 use Rattle.stream.proofs.Keeping.{Kept, kept-none, kept-next}
 use Rattle.stream.proofs.rest.keep.Statement.{statement}
 use Rattle.stream.proofs.rest.keep.Tie as tie
-use Rattle.stream.proofs.rest.keep.Reads as reads
-use Rattle.stream.proofs.rest.keep.Lts as lts
 
 abbrev Inv-loop : tie.InvT-loop
 Inv-loop input₀ from end size i₀ input i = Kept input₀ from i input × (i ≤ size)
