@@ -14,15 +14,15 @@ use borrow.Author.Tests.{lt-ltb, le-ltb, eq-eqb, ne-eqb}
 use Rattle.lemmas.specs.Lists.{all}
 use Rattle.text.specs.Spelling.{ascii}
 use Rattle.calls.specs.Words.{wordOf}
-use Rattle.calls.specs.Cuts.{until}
-use Rattle.calls.specs.Fields.{fieldsOf, isField}
+use Rattle.fields.specs.Cuts.{until}
+use Rattle.fields.specs.Fields.{fieldsOf, isField}
 use Rattle.calls.specs.Answers.{errorFor, answerTo}
-use Rattle.calls.specs.Parts.{HasFields}
+use Rattle.fields.specs.Parts.{HasFields}
 use Rattle.calls.specs.Lines.{isKnown, arity, lineWord, answerOf, replyTo}
 use Rattle.calls.specs.declared.word.Word.{Word}
 use Rattle.calls.specs.declared.word.Word.the-variants.{Fill, Test, Show, First, Next, Unknown}
 use Rattle.calls.proofs.word.Word.{the-type}
-use Rattle.calls.proofs.Splitting.{first-piece, ends-before, next-pieces}
+use Rattle.fields.proofs.Splitting.{first-piece, ends-before, next-pieces}
 
 -- every word but the last is known
 pub known-word : (w : Word) → OneOf (0 ∷ 1 ∷ 2 ∷ 3 ∷ 4 ∷ []) (tagOf the-type w) → isKnown w ≡ true

@@ -1,12 +1,5 @@
 pub mod Texts
-pub mod Scanning
-pub mod Splitting
-pub mod Digits
-pub mod Decoding
 pub mod Saying
 pub mod Shown
-pub mod Pieces
-pub mod Taking
-pub mod Held
 pub mod Answering
 pub mod Samples

@@ -16,8 +16,8 @@ use Rattle.spec.specs.Fill.{closureOf, clashes, boxesFilled, openCount, clashCh
 use Rattle.spec.specs.Kits.{keeps, fitsAll, kits, kitsAfter, isNone, headOf, noneCheck, firstSays, firstWrites, nextSays, nextWrites}
 use Rattle.text.specs.Spelling.{decimal, hexOf}
 use Rattle.text.specs.Spelling.{ascii}
-use Rattle.calls.specs.Words.{is, wordOf}
-use Rattle.calls.specs.Fields.{digitOf, isDigit, pairedUp, isField}
+use Rattle.calls.specs.Words.{wordOf}
+use Rattle.fields.specs.Fields.{is, digitOf, isDigit, pairedUp, isField}
 use Rattle.calls.specs.Lines.{answerOf, replyTo}
 
 pub record Sample : Type 0 where

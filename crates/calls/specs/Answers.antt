@@ -2,7 +2,6 @@
 -- Assumes nothing.
 use mathlib.Core.List.{List, [], _++_}
 use Prim.Native.Nat.{ℕ, _+_, _≤_}
-use lib.ListN.{getD}
 use Rattle.spec.specs.Refusals.{Said, refused, passed, fits, broken, filled, list}
 use Rattle.spec.specs.Fits.{testSays, showsPart, bytesOf}
 use Rattle.spec.specs.Fill.{fillSays, fillWrites}
@@ -10,7 +9,7 @@ use Rattle.spec.specs.Kits.{firstSays, firstWrites, nextSays, nextWrites}
 use Rattle.text.specs.Spelling.{decimal, hexOf}
 use Rattle.text.specs.Putting.{Put}
 use Rattle.text.specs.Spelling.{ascii}
-use Rattle.calls.specs.Fields.{bytesIn}
+use Rattle.fields.specs.Fields.{part}
 use Rattle.calls.specs.declared.word.Word.{Word}
 use Rattle.calls.specs.declared.word.Word.the-variants.{Fill, Test, Show, First, Next, Unknown}
 
@@ -46,10 +45,6 @@ firstAnswer maker depot sheet out = wordsOf (firstSays maker depot sheet out) ++
 abbrev pub nextAnswer : (maker depot sheet given out : List ℕ) → List ℕ
 nextAnswer maker depot sheet given out =
     wordsOf (nextSays maker depot sheet given out) ++ spaced (nextWrites maker depot sheet given out)
-
--- the part that field number k gives
-abbrev pub part : List (List ℕ) → ℕ → List ℕ
-part fs k = bytesIn (getD fs k [])
 
 -- the answer to a call with these fields after its word
 abbrev pub answerTo : Word → List (List ℕ) → List ℕ

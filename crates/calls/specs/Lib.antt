@@ -1,6 +1,4 @@
 pub mod Words
-pub mod Cuts
-pub mod Fields
 pub mod Answers
-pub mod Parts
+pub mod Room
 pub mod Lines

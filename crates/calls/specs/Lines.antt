@@ -8,7 +8,7 @@ use lib.ListN.{length, getD, drop}
 use Rattle.lemmas.specs.Lists.{all}
 use Rattle.text.specs.Spelling.{ascii}
 use Rattle.calls.specs.Words.{wordOf}
-use Rattle.calls.specs.Fields.{fieldsOf, isField}
+use Rattle.fields.specs.Fields.{fieldsOf, isField}
 use Rattle.calls.specs.Answers.{errorFor, answerTo}
 use Rattle.calls.specs.declared.word.Word.{Word}
 use Rattle.calls.specs.declared.word.Word.the-variants.{Fill, Test, Show, First, Next, Unknown}

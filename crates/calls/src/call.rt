@@ -1,18 +1,19 @@
 // A call whose fields are all right, and as many as it wants: decoded, done and answered.
 ghost use Prim.Native.Nat.{_+_, _≤_};
 ghost use lib.ListN.{length, drop};
-ghost use Rattle.calls.specs.Fields.{fieldsOf};
+ghost use Rattle.fields.specs.Fields.{fieldsOf};
 ghost use Rattle.calls.specs.Answers.{answerTo, PutWithin};
 ghost use Rattle.calls.specs.Lines.{arity};
-ghost use Rattle.calls.specs.Parts.{HasFields, Room};
+ghost use Rattle.fields.specs.Parts.{HasFields};
+ghost use Rattle.calls.specs.Room.{Room};
 use crate::operation::answer_fill;
 use crate::operation::answer_first;
 use crate::operation::answer_next;
 use crate::operation::answer_show;
 use crate::operation::answer_test;
-use crate::parts::next_part;
-use crate::parts::take_parts;
 use crate::word::Word;
+use fields::parts::next_part;
+use fields::parts::take_parts;
 
 fn call_test(line: &[u8], from: usize, bytes: &mut [u8], text: &mut [u8], at: usize) -> usize
     requires { ⌜ HasFields (now line) from 3 ⌝ }

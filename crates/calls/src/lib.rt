@@ -1,22 +1,19 @@
 // A call as a line of text, and its answer as another.
 mod call;
-pub mod cut;
-mod field;
 mod operation;
-mod parts;
 mod say;
 mod word;
 
 ghost use Prim.Native.Nat.{_+_};
 ghost use lib.ListN.{length};
 ghost use Rattle.calls.specs.Answers.{PutWithin};
-ghost use Rattle.calls.specs.Parts.{Room};
+ghost use Rattle.calls.specs.Room.{Room};
 ghost use Rattle.calls.specs.Lines.{answerOf, replyTo};
 use call::call;
-use cut::count_pieces;
-use cut::end_of;
-use field::SPACE;
-use field::are_fields;
+use fields::cut::count_pieces;
+use fields::cut::end_of;
+use fields::field::SPACE;
+use fields::field::are_fields;
 use say::put_error;
 use text::put_byte;
 use word::Word;

@@ -3,12 +3,12 @@
 ghost use Prim.Native.Nat.{_+_, _*_, _≤_};
 ghost use lib.ListN.{length};
 ghost use Rattle.calls.specs.Answers.{fillAnswer, testAnswer, showAnswer, firstAnswer, nextAnswer, PutWithin};
-ghost use Rattle.calls.specs.Parts.{InOrder, makerIn, depotIn, thirdIn, givenIn};
-use crate::parts::Parts;
+ghost use Rattle.fields.specs.Parts.{InOrder, makerIn, depotIn, thirdIn, givenIn};
 use crate::say::put_buffer;
 use crate::say::put_filled;
 use crate::say::put_listed;
 use crate::say::put_tested;
+use fields::parts::Parts;
 use text::put_bytes;
 use text::put_hex;
 

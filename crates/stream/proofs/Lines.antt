@@ -10,11 +10,11 @@ use lib.ListN.{length, getD, take, drop, length-append, length-take}
 use lib.Seq.{drop-length, take-append-le}
 use Rattle.text.specs.Putting.{Put}
 use Rattle.text.proofs.Puts.{put-length, put-front}
-use Rattle.calls.specs.Cuts.{cutAt, until}
+use Rattle.fields.specs.Cuts.{cutAt, until}
 use Rattle.calls.specs.Lines.{replyTo}
 use Rattle.calls.specs.Answers.{PutWithin}
-use Rattle.calls.specs.Parts.{Room}
-use Rattle.calls.proofs.Splitting.{pieces-more, pieces-on}
+use Rattle.calls.specs.Room.{Room}
+use Rattle.fields.proofs.Splitting.{pieces-more, pieces-on}
 use Rattle.stream.specs.Input.{repliesTo, outputFor, outputIn, RoomForLines, Replied, Skipped, Stepped, Finished}
 use Rattle.stream.specs.declared.Progress.{Progress}
 use Rattle.stream.proofs.Streaming.{reply-cut}

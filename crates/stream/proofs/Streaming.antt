@@ -11,10 +11,10 @@ use lib.ListN.{length, take, drop, length-take, length-drop}
 use lib.Seq.{take-take, drop-drop, length-take-le}
 use Rattle.text.specs.Putting.{Put}
 use Rattle.text.proofs.Puts.{put-length, put-front}
-use Rattle.calls.specs.Cuts.{until, pieceFrom}
+use Rattle.fields.specs.Cuts.{until, pieceFrom}
 use Rattle.calls.specs.Lines.{answerOf, replyTo}
 use Rattle.stream.specs.Input.{repliesTo, outputFor, Replied}
-use Rattle.calls.proofs.Splitting.{pieces-more, piece-length}
+use Rattle.fields.proofs.Splitting.{pieces-more, piece-length}
 use Rattle.calls.proofs.Answering.{answer-long}
 
 -- a line that is too long may be cut to any length that is too long

@@ -5,7 +5,7 @@ use mathlib.Core.Bool.{Bool, false}
 use mathlib.Core.List.{List, [], _++_, append-assoc, append-nil}
 use Prim.Native.Nat.{ℕ}
 use lib.ListN.{take, drop}
-use Rattle.calls.proofs.Splitting.{pieces-on}
+use Rattle.fields.proofs.Splitting.{pieces-on}
 use Rattle.stream.specs.Input.{repliesTo, outputFor, outputIn}
 use Rattle.stream.specs.Turns.{Turns, steps, reads, ends, passes, joined}
 

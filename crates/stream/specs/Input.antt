@@ -5,7 +5,7 @@ use mathlib.Core.Bool.{Bool, true, false}
 use mathlib.Core.List.{List, [], _∷_, _++_}
 use Prim.Native.Nat.{ℕ, _≤_, _<_}
 use lib.ListN.{length, take, drop}
-use Rattle.calls.specs.Cuts.{cutAt, until}
+use Rattle.fields.specs.Cuts.{cutAt, until}
 use Rattle.calls.specs.Lines.{replyTo}
 use Rattle.stream.specs.declared.Progress.{Progress}
 use Rattle.stream.specs.declared.Step.{Step}

@@ -5,7 +5,7 @@ use mathlib.Core.Bool.{Bool, true, false}
 use mathlib.Core.List.{List, [], _∷_, _++_}
 use Prim.Native.Nat.{ℕ}
 use lib.ListN.{length, take, drop}
-use Rattle.calls.specs.Cuts.{until}
+use Rattle.fields.specs.Cuts.{until}
 use Rattle.stream.specs.Input.{Stepped, Finished}
 use Rattle.stream.specs.declared.Step.{Step}
 

@@ -7,8 +7,8 @@ ghost use Prim.Native.Nat.{_+_, _-_, _≤_, min};
 ghost use lib.ListN.{length};
 ghost use Rattle.stream.specs.Input.{Replied, Skipped, Stepped, Finished, RoomForLines};
 use calls::LONGEST;
-use calls::cut::end_of;
 use calls::reply;
+use fields::cut::end_of;
 
 const LINE_FEED: u8 = 10;
 

@@ -3,8 +3,8 @@
 use mathlib.Core.Path.{_≡_}
 use native.Mathlib.Omega.{arith}
 use lib.ListN.{length}
-use Rattle.calls.specs.Cuts.{until}
-use Rattle.calls.proofs.Splitting.{until-below}
+use Rattle.fields.specs.Cuts.{until}
+use Rattle.fields.proofs.Splitting.{until-below}
 use Rattle.stream.proofs.Lines.{step-replies, step-wait, step-long, cut-room}
 use borrow.Author.Needs.{needs}
 use Rattle.stream.proofs.advance.Statement.{statement}

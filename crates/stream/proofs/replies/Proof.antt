@@ -4,7 +4,7 @@ use mathlib.Core.Path.{_≡_, refl, _∙_}
 use Prim.Native.Nat.{_-_, _<_}
 use native.Mathlib.Omega.{arith}
 use lib.ListN.{length}
-use Rattle.calls.proofs.Splitting.{end-below}
+use Rattle.fields.proofs.Splitting.{end-below}
 use Rattle.stream.proofs.Streaming.{Replying, replying-start, replying-next, replying-done, cut-size}
 use Rattle.stream.proofs.replies.Statement.{statement}
 use Rattle.stream.proofs.replies.Tie as tie

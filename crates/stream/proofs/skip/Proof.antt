@@ -3,8 +3,8 @@
 use Prim.Native.Nat.{_<_}
 use native.Mathlib.Omega.{arith}
 use lib.ListN.{length}
-use Rattle.calls.specs.Cuts.{until}
-use Rattle.calls.proofs.Splitting.{until-below}
+use Rattle.fields.specs.Cuts.{until}
+use Rattle.fields.proofs.Splitting.{until-below}
 use Rattle.stream.proofs.Lines.{skip-on, skip-end}
 use borrow.Author.Needs.{needs}
 use Rattle.stream.proofs.skip.Statement.{statement}

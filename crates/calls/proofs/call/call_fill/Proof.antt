@@ -5,10 +5,10 @@ use Prim.Native.Nat.{_≤_}
 use native.Mathlib.Omega.{arith}
 use lib.ListN.{length}
 use lib.Seq.{length-take-le}
-use Rattle.calls.specs.Fields.{bytesIn}
-use Rattle.calls.specs.Parts.{HasFields}
-use Rattle.calls.proofs.Pieces.{has-first}
-use Rattle.calls.proofs.Held.{three-order, three-held, has-rest, fourth-field, alone-front, alone-room, alone-half}
+use Rattle.fields.specs.Fields.{bytesIn}
+use Rattle.fields.specs.Parts.{HasFields}
+use Rattle.fields.proofs.Pieces.{has-first}
+use Rattle.fields.proofs.Held.{three-order, three-held, has-rest, fourth-field, alone-front, alone-room, alone-half}
 use borrow.Author.Needs.{needs}
 use Rattle.calls.proofs.call.call_fill.Statement.{statement}
 use Rattle.calls.proofs.call.call_fill.Tie as tie

@@ -5,10 +5,10 @@ use Prim.Native.Nat.{_≤_}
 use native.Mathlib.Omega.{arith}
 use lib.ListN.{length}
 use lib.Seq.{length-take-le}
-use Rattle.calls.specs.Fields.{bytesIn}
-use Rattle.calls.specs.Parts.{HasFields}
-use Rattle.calls.proofs.Pieces.{has-first, has-next}
-use Rattle.calls.proofs.Held.{four-held, four-order, four-given, has-rest, fourth-field, fifth-field, alone-front, alone-room, alone-half}
+use Rattle.fields.specs.Fields.{bytesIn}
+use Rattle.fields.specs.Parts.{HasFields}
+use Rattle.fields.proofs.Pieces.{has-first, has-next}
+use Rattle.fields.proofs.Held.{four-held, four-order, four-given, has-rest, fourth-field, fifth-field, alone-front, alone-room, alone-half}
 use borrow.Author.Needs.{needs}
 use Rattle.calls.proofs.call.call_next.Statement.{statement}
 use Rattle.calls.proofs.call.call_next.Tie as tie

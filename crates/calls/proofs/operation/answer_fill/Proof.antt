@@ -2,7 +2,7 @@
 -- Assumes nothing.
 use native.Mathlib.Omega.{arith}
 use Rattle.text.proofs.Puts.{put-then}
-use Rattle.calls.proofs.Pieces.{maker-length}
+use Rattle.fields.proofs.Pieces.{maker-length}
 use borrow.Author.Needs.{needs}
 use Rattle.calls.proofs.operation.answer_fill.Statement.{statement}
 use Rattle.calls.proofs.operation.answer_fill.Tie as tie

@@ -4,10 +4,10 @@ use mathlib.Core.Path.{ap}
 use native.Mathlib.Omega.{arith}
 use lib.ListN.{length}
 use Rattle.text.proofs.Puts.{put-then, put-length}
-use Rattle.calls.specs.Parts.{makerIn, depotIn, thirdIn}
+use Rattle.fields.specs.Parts.{makerIn, depotIn, thirdIn}
 use Rattle.calls.proofs.Saying.{hex-length}
 use Rattle.calls.proofs.Shown.{shown-size}
-use Rattle.calls.proofs.Pieces.{maker-length}
+use Rattle.fields.proofs.Pieces.{maker-length}
 use borrow.Author.Needs.{needs}
 use Rattle.calls.proofs.operation.answer_show.Statement.{statement}
 use Rattle.calls.proofs.operation.answer_show.Tie as tie

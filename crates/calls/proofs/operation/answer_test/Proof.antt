@@ -1,6 +1,6 @@
 -- `calls::operation::answer_test` meets its contract: what it says.
 -- Assumes nothing.
-use Rattle.calls.proofs.Pieces.{maker-length}
+use Rattle.fields.proofs.Pieces.{maker-length}
 use borrow.Author.Needs.{needs}
 use Rattle.calls.proofs.operation.answer_test.Statement.{statement}
 use Rattle.calls.proofs.operation.answer_test.Tie as tie

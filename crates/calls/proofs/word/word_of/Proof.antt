@@ -2,7 +2,8 @@
 -- Assumes nothing.
 use mathlib.Core.Path.{_∙_}
 use borrow.Author.Needs.{needs}
-use Rattle.calls.specs.Words.{is, wordOf}
+use Rattle.fields.specs.Fields.{is}
+use Rattle.calls.specs.Words.{wordOf}
 use Rattle.calls.proofs.Texts.{same-flag}
 use Rattle.calls.proofs.word.word_of.Statement.{statement}
 use Rattle.calls.proofs.word.word_of.Tie as tie
