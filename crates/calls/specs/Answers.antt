@@ -1,25 +1,24 @@
 -- What is answered to a call: what the operation says, in words, and the bytes that the lent buffer then holds.
 -- Assumes nothing.
 use mathlib.Core.List.{List, [], _++_}
-use Prim.Native.Nat.{ℕ, _+_, _≤_}
+use Prim.Native.Nat.{ℕ}
 use Rattle.spec.specs.Refusals.{Said, refused, passed, fits, broken, filled, list}
 use Rattle.spec.specs.Fits.{testSays, showsPart, bytesOf}
 use Rattle.spec.specs.Fill.{fillSays, fillWrites}
 use Rattle.spec.specs.Kits.{firstSays, firstWrites, nextSays, nextWrites}
-use Rattle.text.specs.Spelling.{decimal, hexOf}
-use Rattle.text.specs.Putting.{Put}
-use Rattle.text.specs.Spelling.{ascii}
+use Rattle.text.specs.Spelling.{hexOf, field}
+use Rattle.text.specs.Spelling.{ascii, field}
 use Rattle.fields.specs.Fields.{part}
 use Rattle.calls.specs.declared.word.Word.{Word}
 use Rattle.calls.specs.declared.word.Word.the-variants.{Fill, Test, Show, First, Next, Unknown}
 
 -- what an operation says, in words; `passed` is said by checks alone, and never answered
 abbrev pub wordsOf : Said → List ℕ
-wordsOf (refused number place) = ascii "refused " ++ decimal number ++ ascii " " ++ decimal place
+wordsOf (refused number place) = field "refused " number ++ field " " place
 wordsOf passed = []
 wordsOf fits = ascii "fits"
-wordsOf (broken number) = ascii "broken " ++ decimal number
-wordsOf (filled boxes) = ascii "filled " ++ decimal boxes
+wordsOf (broken number) = field "broken " number
+wordsOf (filled boxes) = field "filled " boxes
 wordsOf list = ascii "list"
 
 -- a space, and the bytes of a buffer
@@ -54,8 +53,3 @@ answerTo Show fs = showAnswer (part fs 0) (part fs 1) (part fs 2)
 answerTo First fs = firstAnswer (part fs 0) (part fs 1) (part fs 2) (part fs 3)
 answerTo Next fs = nextAnswer (part fs 0) (part fs 1) (part fs 2) (part fs 3) (part fs 4)
 answerTo Unknown fs = []
-
--- the bytes are put, and they are no more than `most`
-pub record PutWithin (most : ℕ) (old : List ℕ) (at : ℕ) (bytes new : List ℕ) (next : ℕ) : Type 0 where
-  pub puts : Put old at bytes new next
-  pub short : next ≤ at + most

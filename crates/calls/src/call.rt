@@ -2,7 +2,8 @@
 ghost use Prim.Native.Nat.{_+_, _≤_};
 ghost use lib.ListN.{length, drop};
 ghost use Rattle.fields.specs.Fields.{fieldsOf};
-ghost use Rattle.calls.specs.Answers.{answerTo, PutWithin};
+ghost use Rattle.text.specs.Putting.{PutWithin};
+ghost use Rattle.calls.specs.Answers.{answerTo};
 ghost use Rattle.calls.specs.Lines.{arity};
 ghost use Rattle.fields.specs.Parts.{HasFields};
 ghost use Rattle.calls.specs.Room.{Room};

@@ -6,7 +6,7 @@ mod word;
 
 ghost use Prim.Native.Nat.{_+_};
 ghost use lib.ListN.{length};
-ghost use Rattle.calls.specs.Answers.{PutWithin};
+ghost use Rattle.text.specs.Putting.{PutWithin};
 ghost use Rattle.calls.specs.Room.{Room};
 ghost use Rattle.calls.specs.Lines.{answerOf, replyTo};
 use call::call;

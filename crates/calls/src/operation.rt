@@ -2,8 +2,9 @@
 // buffer, but for the out buffer, which the operation writes.
 ghost use Prim.Native.Nat.{_+_, _*_, _≤_};
 ghost use lib.ListN.{length};
-ghost use Rattle.calls.specs.Answers.{fillAnswer, testAnswer, showAnswer, firstAnswer, nextAnswer, PutWithin};
-ghost use Rattle.fields.specs.Parts.{InOrder, makerIn, depotIn, thirdIn, givenIn};
+ghost use Rattle.text.specs.Putting.{PutWithin};
+ghost use Rattle.calls.specs.Answers.{fillAnswer, testAnswer, showAnswer, firstAnswer, nextAnswer};
+ghost use Rattle.fields.specs.Parts.{PartsInOrder, makerIn, depotIn, thirdIn, givenIn};
 use crate::say::put_buffer;
 use crate::say::put_filled;
 use crate::say::put_listed;
@@ -13,7 +14,7 @@ use text::put_bytes;
 use text::put_hex;
 
 pub fn answer_test(bytes: &[u8], p: Parts, text: &mut [u8], at: usize) -> usize
-    requires { ⌜ InOrder (now bytes) p ⌝ }
+    requires { ⌜ PartsInOrder (now bytes) p ⌝ }
     requires { ⌜ at + 50 ≤ length (now text) ⌝ }
     ensures { λ r. ⌜ PutWithin 50 (now (text .entry)) at (testAnswer (makerIn (now (bytes .entry)) p) (depotIn (now (bytes .entry)) p) (thirdIn (now (bytes .entry)) p)) (now (text .exit)) r ⌝ }
 {
@@ -25,7 +26,7 @@ pub fn answer_test(bytes: &[u8], p: Parts, text: &mut [u8], at: usize) -> usize
 }
 
 pub fn answer_show(bytes: &[u8], p: Parts, text: &mut [u8], at: usize) -> usize
-    requires { ⌜ InOrder (now bytes) p ⌝ }
+    requires { ⌜ PartsInOrder (now bytes) p ⌝ }
     requires { ⌜ at + 50 ≤ length (now text) ⌝ }
     ensures { λ r. ⌜ PutWithin 50 (now (text .entry)) at (showAnswer (makerIn (now (bytes .entry)) p) (depotIn (now (bytes .entry)) p) (thirdIn (now (bytes .entry)) p)) (now (text .exit)) r ⌝ }
 {
@@ -38,7 +39,7 @@ pub fn answer_show(bytes: &[u8], p: Parts, text: &mut [u8], at: usize) -> usize
 }
 
 pub fn answer_fill(bytes: &[u8], p: Parts, out: &mut [u8], text: &mut [u8], at: usize) -> usize
-    requires { ⌜ InOrder (now bytes) p ⌝ }
+    requires { ⌜ PartsInOrder (now bytes) p ⌝ }
     requires { ⌜ at + 52 + 2 * length (now out) ≤ length (now text) ⌝ }
     ensures { λ r. ⌜ PutWithin (52 + 2 * length (now (out .entry))) (now (text .entry)) at (fillAnswer (makerIn (now (bytes .entry)) p) (depotIn (now (bytes .entry)) p) (thirdIn (now (bytes .entry)) p) (now (out .entry))) (now (text .exit)) r ⌝ }
 {
@@ -51,7 +52,7 @@ pub fn answer_fill(bytes: &[u8], p: Parts, out: &mut [u8], text: &mut [u8], at: 
 }
 
 pub fn answer_first(bytes: &[u8], p: Parts, out: &mut [u8], text: &mut [u8], at: usize) -> usize
-    requires { ⌜ InOrder (now bytes) p ⌝ }
+    requires { ⌜ PartsInOrder (now bytes) p ⌝ }
     requires { ⌜ at + 52 + 2 * length (now out) ≤ length (now text) ⌝ }
     ensures { λ r. ⌜ PutWithin (52 + 2 * length (now (out .entry))) (now (text .entry)) at (firstAnswer (makerIn (now (bytes .entry)) p) (depotIn (now (bytes .entry)) p) (thirdIn (now (bytes .entry)) p) (now (out .entry))) (now (text .exit)) r ⌝ }
 {
@@ -72,7 +73,7 @@ pub fn answer_next(
     text: &mut [u8],
     at: usize,
 ) -> usize
-    requires { ⌜ InOrder (now bytes) p × (p .third ≤ given) × (given ≤ length (now bytes)) ⌝ }
+    requires { ⌜ PartsInOrder (now bytes) p × (p .third ≤ given) × (given ≤ length (now bytes)) ⌝ }
     requires { ⌜ at + 52 + 2 * length (now out) ≤ length (now text) ⌝ }
     ensures { λ r. ⌜ PutWithin (52 + 2 * length (now (out .entry))) (now (text .entry)) at (nextAnswer (makerIn (now (bytes .entry)) p) (depotIn (now (bytes .entry)) p) (thirdIn (now (bytes .entry)) p) (givenIn (now (bytes .entry)) p given) (now (out .entry))) (now (text .exit)) r ⌝ }
 {

@@ -1,14 +1,12 @@
 // What an operation says, in words, put into a lent buffer.
-ghost use mathlib.Core.List.{_++_};
 ghost use Prim.Native.Nat.{_+_, _*_, _≤_};
 ghost use lib.ListN.{length};
 ghost use Rattle.spec.specs.Refusals.{refused};
-ghost use Rattle.text.specs.Spelling.{decimal};
-ghost use Rattle.text.specs.Putting.{Put};
+ghost use Rattle.text.specs.Putting.{Put, PutWithin};
 ghost use Rattle.fits.specs.Answer.{testedSays};
 ghost use Rattle.fill.specs.Answer.{filledSays};
 ghost use Rattle.lists.specs.Answer.{listedSays};
-ghost use Rattle.calls.specs.Answers.{wordsOf, errorFor, spaced, PutWithin};
+ghost use Rattle.calls.specs.Answers.{wordsOf, errorFor, spaced};
 use desk::Filled;
 use desk::Listed;
 use desk::Tested;
@@ -16,7 +14,7 @@ use numbers::BROKEN;
 use numbers::REFUSED;
 use text::put_byte;
 use text::put_bytes;
-use text::put_decimal;
+use text::put_field;
 use text::put_hex;
 
 const SPACE: u8 = 32;
@@ -38,23 +36,12 @@ pub fn put_buffer(text: &mut [u8], at: usize, bytes: &[u8]) -> usize
     put_hex(text, next, bytes)
 }
 
-// A word with the space after it, and a number.
-fn put_counted(text: &mut [u8], at: usize, word: &[u8], n: usize) -> usize
-    requires { ⌜ at + length (now word) + 20 ≤ length (now text) ⌝ }
-    ensures { λ r. ⌜ Put (now (text .entry)) at (now (word .entry) ++ decimal n) (now (text .exit)) r ⌝ }
-    ensures { λ r. ⌜ r ≤ at + length (now (word .entry)) + 20 ⌝ }
-{
-    let next = put_bytes(text, at, word);
-    put_decimal(text, next, n)
-}
-
 fn put_refused(text: &mut [u8], at: usize, number: usize, place: usize) -> usize
     requires { ⌜ at + 50 ≤ length (now text) ⌝ }
     ensures { λ r. ⌜ PutWithin 50 (now (text .entry)) at (wordsOf (refused number place)) (now (text .exit)) r ⌝ }
 {
-    let next = put_counted(text, at, b"refused ", number);
-    let last = put_byte(text, next, SPACE);
-    put_decimal(text, last, place)
+    let next = put_field(text, at, b"refused ", number);
+    put_field(text, next, b" ", place)
 }
 
 pub fn put_tested(text: &mut [u8], at: usize, answer: Tested) -> usize
@@ -66,7 +53,7 @@ pub fn put_tested(text: &mut [u8], at: usize, answer: Tested) -> usize
         return put_refused(text, at, n.first as usize, n.second as usize);
     }
     if n.code == BROKEN {
-        return put_counted(text, at, b"broken ", n.first as usize);
+        return put_field(text, at, b"broken ", n.first as usize);
     }
     put_bytes(text, at, b"fits")
 }
@@ -79,7 +66,7 @@ pub fn put_filled(text: &mut [u8], at: usize, answer: Filled) -> usize
     if n.code == REFUSED {
         return put_refused(text, at, n.first as usize, n.second as usize);
     }
-    put_counted(text, at, b"filled ", n.first as usize)
+    put_field(text, at, b"filled ", n.first as usize)
 }
 
 pub fn put_listed(text: &mut [u8], at: usize, answer: Listed) -> usize

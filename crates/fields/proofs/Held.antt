@@ -12,7 +12,7 @@ use Rattle.lemmas.proofs.Tests.{T-true, true-T, both-right}
 use Rattle.text.proofs.Puts.{put-length}
 use Rattle.fields.specs.Cuts.{until}
 use Rattle.fields.specs.Fields.{fieldsOf, fieldAt, isField, bytesIn, part}
-use Rattle.fields.specs.Parts.{HasFields, InOrder, Taken, ThreeParts, makerIn, depotIn, thirdIn, givenIn}
+use Rattle.fields.specs.Parts.{HasFields, PartsInOrder, Taken, ThreeParts, makerIn, depotIn, thirdIn, givenIn}
 use Rattle.fields.specs.declared.parts.Place.{Place}
 use Rattle.fields.specs.declared.parts.Parts.{Parts}
 use Rattle.fields.proofs.Splitting.{end-below, piece-length, first-piece, next-pieces}
@@ -42,7 +42,7 @@ pub record Held (bytes : List ℕ) (p : Parts) (m d t : List ℕ) : Type 0 where
   pub third : thirdIn bytes p ≡ t
 
 module _ {line : List ℕ} {from : ℕ} {bytes : List ℕ} {p : Parts} (three : ThreeParts line from bytes p) where
-  pub three-order : InOrder bytes p
+  pub three-order : PartsInOrder bytes p
   three-order = record { depot = omega (arith, three .depot); third = omega (arith, three .third); room = three .room }
 
   -- in a buffer that has them at the front, whatever stands after them
@@ -67,7 +67,7 @@ module _ {line : List ℕ} {from : ℕ} {bytes : List ℕ} {p : Parts} (three : 
     pub four-held : Held more p (part (fieldsOf (drop from line)) 0) (part (fieldsOf (drop from line)) 1) (part (fieldsOf (drop from line)) 2)
     four-held = three-within more (g .at) (bytesIn (fieldAt line (p .from))) (taken-front within t room)
 
-    pub four-order : InOrder more p × (p .third ≤ g .at) × (g .at ≤ length more)
+    pub four-order : PartsInOrder more p × (p .third ≤ g .at) × (g .at ≤ length more)
     four-order =
         let order = three-order in
         let same = put-length (t .puts) in (

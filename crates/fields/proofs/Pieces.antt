@@ -12,7 +12,7 @@ use Rattle.lemmas.specs.Lists.{all}
 use Rattle.lemmas.proofs.Tests.{T-true, true-T, both-left, both-right}
 use Rattle.fields.specs.Cuts.{until}
 use Rattle.fields.specs.Fields.{fieldsOf, fieldAt, isField, bytesIn}
-use Rattle.fields.specs.Parts.{HasFields, InOrder, makerIn}
+use Rattle.fields.specs.Parts.{HasFields, PartsInOrder, makerIn}
 use Rattle.fields.specs.declared.parts.Parts.{Parts}
 use Rattle.fields.proofs.Scanning.{pieces-some}
 use Rattle.fields.proofs.Splitting.{first-piece, ends-before, next-pieces}
@@ -64,5 +64,5 @@ piece l p q r n from end e start stop =
     let size : end - from ≡ length q = ap (λ (k : ℕ). k - from) stop ∙ add-sub-cancel-left from (length q) in
     rw (size, rest) (take-at q (r ++ drop n l) (length q) refl)
 
-pub maker-length : (bytes : List ℕ) (p : Parts) → InOrder bytes p → p .maker ≡ length (makerIn bytes p)
+pub maker-length : (bytes : List ℕ) (p : Parts) → PartsInOrder bytes p → p .maker ≡ length (makerIn bytes p)
 maker-length bytes p h = sym (length-take-le (p .maker) bytes (omega (arith, h .depot, h .third, h .room)))

@@ -25,7 +25,7 @@ thirdIn bytes p = take (p .third - p .depot) (drop (p .depot) bytes)
 abbrev pub givenIn : List ℕ → Parts → ℕ → List ℕ
 givenIn bytes p given = take (given - p .third) (drop (p .third) bytes)
 
-pub record InOrder (bytes : List ℕ) (p : Parts) : Type 0 where
+pub record PartsInOrder (bytes : List ℕ) (p : Parts) : Type 0 where
   pub depot : p .maker ≤ p .depot
   pub third : p .depot ≤ p .third
   pub room : p .third ≤ length bytes

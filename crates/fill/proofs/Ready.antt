@@ -15,7 +15,7 @@ use Rattle.spec.proofs.Accepted.{Accepted}
 use Rattle.theory.specs.Steps.{Loaded}
 use Rattle.theory.proofs.Form.{form-passed}
 use Rattle.theory.proofs.Loading.{loaded-sheet}
-use Rattle.fill.specs.Answer.{InForm}
+use Rattle.fill.specs.Answer.{FormPassed}
 use Rattle.fill.specs.Moves.{Cells, GoodTables}
 
 -- a record that is good for n boxes is good for more
@@ -48,7 +48,7 @@ good-accepted {n} {maker} {depot} tables =
       good = λ r l. bad-more n 256 (recordAt maker depot r) (tables .boxes) (tables .good r l);
     }
 
-module _ (maker depot sheet out : List ℕ) (known : InForm maker depot sheet out) where
+module _ (maker depot sheet out : List ℕ) (known : FormPassed maker depot sheet out) where
   pub good-tables : GoodTables maker depot
   good-tables = good-accepted (form-passed maker depot sheet out (known .form) .tables)
 

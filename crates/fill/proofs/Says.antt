@@ -16,7 +16,7 @@ use Rattle.accept.proofs.Refused.{numbered}
 use Rattle.theory.proofs.Filling.{Fills, fill-refused, fill-broken, fill-filled}
 use Rattle.fill.specs.declared.operation.Filled.{Filled}
 use Rattle.fill.specs.declared.operation.Filled.the-variants.{Boxes, Broken, Refused}
-use Rattle.fill.specs.Answer.{filledSays, FillDoes, InForm, IsFilled}
+use Rattle.fill.specs.Answer.{filledSays, FillDoes, FormPassed, FillsTo}
 
 -- a law of Fill's equations, as the promise has it
 pub does : {maker depot sheet out : List ℕ} (answer : Filled) {left : List ℕ} {said : Said} →
@@ -29,12 +29,12 @@ fill-refuses maker depot sheet out why e =
     let r = numbered why in
     does (Refused why) (fill-refused maker depot sheet out (sym e ∙ r .2)) (r .2)
 
-pub filled-size : (maker depot sheet filled : List ℕ) → IsFilled maker depot sheet filled → length filled ≡ length sheet
+pub filled-size : (maker depot sheet filled : List ℕ) → FillsTo maker depot sheet filled → length filled ≡ length sheet
 unfolding closureOf
 filled-size maker depot sheet filled is = ap length (is .closure) ∙ closed-length (rulesIn maker depot) sheet
 
 -- what is handed out once the sheet is filled
-module _ (maker depot sheet out filled : List ℕ) (known : InForm maker depot sheet out) (is : IsFilled maker depot sheet filled) where
+module _ (maker depot sheet out filled : List ℕ) (known : FormPassed maker depot sheet out) (is : FillsTo maker depot sheet filled) where
   pub handed-broken : (i : ℕ) → i ≡ firstBroken maker depot filled → openCount filled ≡ 0 → i < recordCount maker depot →
       FillDoes maker depot sheet out (Broken i) out
   handed-broken i found full below =

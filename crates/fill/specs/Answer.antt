@@ -24,15 +24,15 @@ pub record FillDoes (maker depot sheet out : List ℕ) (answer : Filled) (left :
   pub writes : left ≡ fillWrites maker depot sheet out
 
 -- the checks of form have passed
-pub record InForm (maker depot sheet out : List ℕ) : Type 0 where
+pub record FormPassed (maker depot sheet out : List ℕ) : Type 0 where
   pub form : judge (orderChecks maker depot sheet out) passed ≡ passed
 
 -- and the number of boxes is the sheet's length
 pub record Fillable (n : ℕ) (maker depot sheet out : List ℕ) : Type 0 where
-  pub call : InForm maker depot sheet out
+  pub call : FormPassed maker depot sheet out
   pub boxes : n ≡ length sheet
 
 -- the closure of the sheet, without a clash
-pub record IsFilled (maker depot sheet filled : List ℕ) : Type 0 where
+pub record FillsTo (maker depot sheet filled : List ℕ) : Type 0 where
   pub closure : filled ≡ closureOf maker depot sheet
   pub unclashed : (b : ℕ) → facts.Clash (rulesIn maker depot) sheet b → ⊥

@@ -1,5 +1,5 @@
 // The public operation Fill: the checks, the engine, and what is written.
-ghost use Rattle.fill.specs.Answer.{InForm, Fillable, IsFilled, FillDoes};
+ghost use Rattle.fill.specs.Answer.{FormPassed, Fillable, FillsTo, FillDoes};
 use crate::engine::run;
 use accept::form::Form;
 use accept::form::Refusal;
@@ -27,8 +27,8 @@ fn hand_out<'a>(
     filled: &[u8],
     out: &mut [u8],
 ) -> Filled
-    requires { ⌜ InForm (now maker) (now depot) (now sheet) (now out) ⌝ }
-    requires { ⌜ IsFilled (now maker) (now depot) (now sheet) (now filled) ⌝ }
+    requires { ⌜ FormPassed (now maker) (now depot) (now sheet) (now out) ⌝ }
+    requires { ⌜ FillsTo (now maker) (now depot) (now sheet) (now filled) ⌝ }
     ensures { λ r. ⌜ FillDoes (now (maker .entry)) (now (depot .entry)) (now (sheet .entry)) (now (out .entry)) r (now (out .exit)) ⌝ }
 {
     if count_open(filled) == 0 {

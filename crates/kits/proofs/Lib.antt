@@ -2,6 +2,7 @@ pub mod Order
 pub mod Answers
 pub mod FullLists
 pub mod Kits
+pub mod Spare
 pub mod Says
 pub mod Sheets
 pub mod States

@@ -41,7 +41,7 @@ pub fn put_same(table: &mut [u8], count: usize, kind: usize, x: usize, y: usize,
     }
 }
 
-// Joins each of the boxes 0 to `last` to the next, the last two first: where box 0 alone is settled, a pass over the records in
+// Joins each box below `last` to the next, the last two first: where box 0 alone is settled, a pass over the records in
 // their order settles one box more.
 pub fn put_chain(table: &mut [u8], kind: usize, last: usize)
     requires { ⌜ 8 * last ≤ length (now table) ⌝ }

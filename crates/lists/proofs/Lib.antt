@@ -1,3 +1,4 @@
 pub mod Turn
 pub mod Calls
+pub mod Nine
 pub mod Unique

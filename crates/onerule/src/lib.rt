@@ -9,7 +9,7 @@ ghost use Rattle.lemmas.specs.Lists.{upto};
 ghost use Rattle.spec.specs.OneRule.{outcome};
 ghost use Rattle.onerule.specs.Index.{indexOf, Coded};
 
-// The whole table: entry k is the outcome of k. Every use of a constant array builds it anew, so an operation takes it once.
+// The whole table: entry k is the outcome of k. Every use of a constant array builds it anew, so the constant is used here alone.
 pub fn table() -> [u8; 256]
     ensures { λ r. ⌜ r ≡ map outcome (upto 256) ⌝ }
 {

@@ -10,7 +10,7 @@ use borrow.Author.Tests.{lt-ltb, le-ltb}
 use lib.ListN.{length, take, drop, getD, take-append-drop, length-drop, length-append}
 use lib.Seq.{drop-drop, getD-drop, take-all}
 use Rattle.text.specs.Spelling.{ascii, spelt, digitsOf}
-use Rattle.text.specs.Putting.{Put}
+use Rattle.text.specs.Putting.{Put, PutWithin}
 use Rattle.text.proofs.Puts.{put-then, put-length}
 use Rattle.text.proofs.Spells.{Spelling, spelling-start, spelling-next, spelling-all}
 use Rattle.lemmas.proofs.Reading.{getD-default}
@@ -18,7 +18,6 @@ use Rattle.spec.specs.Kits.{kits, kitsAfter}
 use Rattle.kits.specs.Kit.{IsFull}
 use Rattle.kits.proofs.Runs.{kits-behind, kits-full}
 use Rattle.report.specs.Listing.{listLine, endLine, lastLine, kitLines}
-use Rattle.report.specs.Room.{PutIn}
 use Rattle.report.specs.Turns.{AtHead}
 use Rattle.report.proofs.Rooms.{digits-length}
 
@@ -86,7 +85,7 @@ module _ (maker depot sheet : List ℕ) {old kit new : List ℕ} {start at k : �
 
   -- 64 are put: a 65th exists
   pub showing-more : {last : List ℕ} {next : ℕ} → 64 ≤ k → Put new at (ascii "more\n") last next →
-      PutIn 16500 old start (kitLines ls) last next
+      PutWithin 16500 old start (kitLines ls) last next
   unfolding kitLines lastLine
   showing-more {last} {next} all put =
       let full : k ≡ 64 = omega (arith, s .few) in
@@ -94,13 +93,13 @@ module _ (maker depot sheet : List ℕ) {old kit new : List ℕ} {start at k : �
         puts =
             rw (lt-ltb 64 (length ls) (omega (arith, more)))
             (put-then (subst (λ (i : ℕ). Put old start (spelt listLine (take i ls)) new at) full (s .lines .puts)) put);
-        room = omega (arith, s .room, put .after);
+        short = omega (arith, s .room, put .after);
       }
 
 -- none is left
 pub showing-end : {ls : List (List ℕ)} {old kit new last : List ℕ} {start at next k : ℕ} {found : Bool} →
-    Showing ls old start kit new at k found → found ≡ false → PutIn 25 new at (endLine k) last next →
-    PutIn 16500 old start (kitLines ls) last next
+    Showing ls old start kit new at k found → found ≡ false → PutWithin 25 new at (endLine k) last next →
+    PutWithin 16500 old start (kitLines ls) last next
 unfolding kitLines lastLine
 showing-end {ls} {old} {kit} {new} {last} {start} {at} {next} {k} s ended put =
     let none : drop k ls ≡ [] = subst (λ (f : Bool). AtHead (drop k ls) f kit) ended (s .head) in
@@ -109,5 +108,5 @@ showing-end {ls} {old} {kit} {new} {last} {start} {at} {next} {k} s ended put =
       puts =
           rw (le-ltb 64 (length ls) (omega (arith, s .few)), take-all 64 ls (omega (arith, s .few)), count)
           (put-then (spelling-all (s .lines) (omega arith)) (put .puts));
-      room = omega (arith, s .room, s .few, put .room);
+      short = omega (arith, s .room, s .few, put .short);
     }

@@ -1,3 +1,2 @@
 pub mod Listing
-pub mod Room
 pub mod Turns

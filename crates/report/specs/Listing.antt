@@ -4,18 +4,13 @@
 use mathlib.Core.Bool.{cond}
 use mathlib.Core.List.{List, [], _++_}
 use Prim.Native.Nat.{ℕ}
-use Prim.Native.String.{String}
 use lib.Dec.{ltb}
 use lib.ListN.{length, take}
-use Rattle.text.specs.Spelling.{ascii, decimal, spelt, digitsOf}
+use Rattle.text.specs.Spelling.{ascii, field, spelt, digitsOf}
 use Rattle.spec.specs.Records.{recordCount}
 use Rattle.spec.specs.Refusals.{Said, refused, passed, fits, broken, filled, list}
 use Rattle.spec.specs.Fill.{openCount, fillSays, fillWrites}
 use Rattle.spec.specs.Kits.{kits}
-
--- a word and a number, with what parts the word from the field before it and the number from the word
-abbrev pub field : String → ℕ → List ℕ
-field word n = ascii word ++ decimal n
 
 -- Fill refuses
 unfoldable pub refusedLine : (number place : ℕ) → List ℕ

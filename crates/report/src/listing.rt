@@ -3,12 +3,10 @@ ghost use mathlib.Core.Path.{_≡_};
 ghost use Prim.Native.Nat.{_+_, _≤_};
 ghost use lib.ListN.{length, take};
 ghost use Rattle.io.specs.Counts.{Counts};
-ghost use Rattle.text.specs.Putting.{Put};
+ghost use Rattle.text.specs.Putting.{Put, PutWithin};
 ghost use Rattle.spec.specs.Kits.{kits};
 ghost use Rattle.report.specs.Listing.{kitLines, listingOf};
-ghost use Rattle.report.specs.Room.{PutIn};
 ghost use Rattle.report.specs.Turns.{Listable, Boxed};
-use crate::lines::number_of;
 use crate::lines::put_end;
 use crate::lines::put_header;
 use crate::lines::put_list;
@@ -16,7 +14,7 @@ use crate::lines::put_more;
 use crate::lines::put_refused;
 use crate::turns::first_kit;
 use crate::turns::next_kit;
-use desk::Filled;
+use numbers::REFUSED;
 use sheet::count_open;
 
 const MOST_LISTS: usize = 64;
@@ -34,7 +32,7 @@ fn put_kits<'a>(
     requires { ⌜ Listable (now maker) (now depot) (now sheet) (now kit) ⌝ }
     requires { ⌜ length (now given) ≡ length (now sheet) ⌝ }
     requires { ⌜ start + 16500 ≤ length (now out) ⌝ }
-    ensures { λ r. ⌜ PutIn 16500 (now (out .entry)) start (kitLines (kits (now (maker .entry)) (now (depot .entry)) (now (sheet .entry)))) (now (out .exit)) r ⌝ }
+    ensures { λ r. ⌜ PutWithin 16500 (now (out .entry)) start (kitLines (kits (now (maker .entry)) (now (depot .entry)) (now (sheet .entry)))) (now (out .exit)) r ⌝ }
 {
     let mut at = start;
     let mut k: usize = 0;
@@ -67,23 +65,17 @@ fn put_listing<'a>(
     requires { ⌜ Boxed (now sheet) (now given) ⌝ }
     requires { ⌜ Boxed (now sheet) (now kit) ⌝ }
     requires { ⌜ 17000 ≤ length (now out) ⌝ }
-    ensures { λ r. ⌜ PutIn 17000 (now (out .entry)) 0 (listingOf (now (maker .entry)) (now (depot .entry)) (now (sheet .entry))) (now (out .exit)) r ⌝ }
+    ensures { λ r. ⌜ PutWithin 17000 (now (out .entry)) 0 (listingOf (now (maker .entry)) (now (depot .entry)) (now (sheet .entry))) (now (out .exit)) r ⌝ }
 {
-    let answer = desk::fill(maker, depot, sheet, filled);
-    match answer {
-        Filled::Boxes(count) => {
-            let rules = maker.len() / 8 + depot.len() / 8;
-            let left = count_open(&filled[..]);
-            let at = put_header(out, sheet.len(), rules, count, left);
-            put_kits(maker, depot, sheet, given, kit, out, at)
-        }
-        Filled::Clash => put_refused(out, 7, 0),
-        Filled::Broken(i) => put_refused(out, 8, i),
-        Filled::Refused(why) => {
-            let said = number_of(why);
-            put_refused(out, said.number, said.place)
-        }
+    let said = numbers::of_filled(desk::fill(maker, depot, sheet, filled));
+    let first = said.first as usize;
+    if said.code == REFUSED {
+        return put_refused(out, first, said.second as usize);
     }
+    let rules = maker.len() / 8 + depot.len() / 8;
+    let left = count_open(&filled[..]);
+    let at = put_header(out, sheet.len(), rules, first, left);
+    put_kits(maker, depot, sheet, given, kit, out, at)
 }
 
 // Room for a sheet of 256 boxes.

@@ -14,6 +14,7 @@ pub mod Rounding
 pub mod Enough
 pub mod Closed
 pub mod Ends
+pub mod Kept
 pub mod Samples
 pub mod Bounds
 pub mod Broken

@@ -94,6 +94,9 @@ table =
     ∷ onNone (entry 6) (number 62)
     ∷ onNone (entry 137) (number 63)
     ∷ onNone (entry 106) (number 42)
+    ∷ onNone (fill []) (says (filled 0) [])
+    ∷ onNone (first []) (says list [])
+    ∷ onNone (next [] []) (says (refused 9 0) [])
     ∷ record { maker = self-record; depot = []; call = test (0 ∷ []); paper = shows (refused 3 0) (record { depots = false; start = 0; size = 0 }) }
     ∷ []
 
@@ -103,7 +106,7 @@ computed p = answer (p .maker) (p .depot) (p .call)
 pub paper-of : Sample → Answer
 paper-of p = p .paper
 
--- P1 to P12: each call answers what the paper says
+-- P1 to P12, and no boxes under no rules: each call answers what the paper says
 pub samples : map computed table ≡ map paper-of table
 unfolding table and-record equ-record same-record not-record self-record computed paper-of
     lowest kindOf placesOf meaning rulesOf recFrom recordAt recordCount rulesIn boxAt boxesOf noKind lacksZ twoEqual bad

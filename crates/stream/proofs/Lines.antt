@@ -8,11 +8,10 @@ use Prim.Native.Nat.{ℕ, suc, _+_, _≤_, _<_}
 use native.Mathlib.Omega.{arith}
 use lib.ListN.{length, getD, take, drop, length-append, length-take}
 use lib.Seq.{drop-length, take-append-le}
-use Rattle.text.specs.Putting.{Put}
+use Rattle.text.specs.Putting.{Put, PutWithin}
 use Rattle.text.proofs.Puts.{put-length, put-front}
 use Rattle.fields.specs.Cuts.{cutAt, until}
 use Rattle.calls.specs.Lines.{replyTo}
-use Rattle.calls.specs.Answers.{PutWithin}
 use Rattle.calls.specs.Room.{Room}
 use Rattle.fields.proofs.Splitting.{pieces-more, pieces-on}
 use Rattle.stream.specs.Input.{repliesTo, outputFor, outputIn, RoomForLines, Replied, Skipped, Stepped, Finished}

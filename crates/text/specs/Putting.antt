@@ -2,7 +2,7 @@
 -- Assumes nothing.
 use mathlib.Core.Path.{_≡_}
 use mathlib.Core.List.{List}
-use Prim.Native.Nat.{ℕ, _+_}
+use Prim.Native.Nat.{ℕ, _+_, _≤_}
 use lib.ListN.{length}
 use lib.Seq.{sets}
 
@@ -10,3 +10,8 @@ use lib.Seq.{sets}
 pub record Put (old : List ℕ) (at : ℕ) (bytes new : List ℕ) (next : ℕ) : Type 0 where
   pub stored : new ≡ sets old at bytes
   pub after : next ≡ at + length bytes
+
+-- they are put, and they are no more than `most`
+pub record PutWithin (most : ℕ) (old : List ℕ) (at : ℕ) (bytes new : List ℕ) (next : ℕ) : Type 0 where
+  pub puts : Put old at bytes new next
+  pub short : next ≤ at + most

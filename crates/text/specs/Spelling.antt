@@ -21,6 +21,10 @@ decimalIn (suc more) n = elim (ltb n 10) [ true ↦ (48 + n) ∷ [] | false ↦ 
 unfoldable pub decimal : ℕ → List ℕ
 decimal n = decimalIn n n
 
+-- a word and a number, with what parts the word from the field before it and the number from the word
+abbrev pub field : String → ℕ → List ℕ
+field word n = ascii word ++ decimal n
+
 -- each element spelt by itself, one after the other
 abbrev pub spelt : {A : Type 0} → (A → List ℕ) → List A → List ℕ
 spelt spell [] = []

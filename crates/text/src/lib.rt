@@ -1,10 +1,10 @@
 // Bytes put into a lent buffer, one after the other: each function answers where the next byte goes.
 ghost use mathlib.Core.Path.{_≡_};
-ghost use mathlib.Core.List.{_∷_, []};
+ghost use mathlib.Core.List.{_∷_, [], _++_};
 ghost use Prim.Native.Nat.{ℕ, _+_, _≤_, _<_};
 ghost use lib.ListN.{length, getD};
 ghost use Rattle.text.specs.Spelling.{decimal, digitsOf, hexDigit, hexPair, hexOf};
-ghost use Rattle.text.specs.Putting.{Put};
+ghost use Rattle.text.specs.Putting.{Put, PutWithin};
 
 pub fn put_byte(out: &mut [u8], at: usize, b: u8) -> usize
     requires { ⌜ at < length (now out) ⌝ }
@@ -85,4 +85,13 @@ pub fn put_decimal(out: &mut [u8], at: usize, n: usize) -> usize
     }
     let next = put_decimal(out, at, n / 10);
     put_byte(out, next, 48 + (n % 10) as u8)
+}
+
+// A word with what parts it from the number, and the number.
+pub fn put_field(out: &mut [u8], at: usize, word: &[u8], n: usize) -> usize
+    requires { ⌜ at + (length (now word) + 20) ≤ length (now out) ⌝ }
+    ensures { λ r. ⌜ PutWithin (length (now (word .entry)) + 20) (now (out .entry)) at (now (word .entry) ++ decimal n) (now (out .exit)) r ⌝ }
+{
+    let next = put_bytes(out, at, word);
+    put_decimal(out, next, n)
 }

@@ -5,7 +5,7 @@ use native.Mathlib.Omega.{arith}
 use lib.ListN.{length}
 use Rattle.text.proofs.Puts.{put-then, put-length}
 use Rattle.fields.specs.Parts.{makerIn, depotIn, thirdIn}
-use Rattle.calls.proofs.Saying.{hex-length}
+use Rattle.text.proofs.Rooms.{hex-length}
 use Rattle.calls.proofs.Shown.{shown-size}
 use Rattle.fields.proofs.Pieces.{maker-length}
 use borrow.Author.Needs.{needs}

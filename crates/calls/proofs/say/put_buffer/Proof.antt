@@ -2,7 +2,7 @@
 -- Assumes nothing.
 use native.Mathlib.Omega.{arith}
 use Rattle.text.proofs.Puts.{put-then, put-length}
-use Rattle.calls.proofs.Saying.{hex-length}
+use Rattle.text.proofs.Rooms.{hex-length}
 use borrow.Author.Needs.{needs}
 use Rattle.calls.proofs.say.put_buffer.Statement.{statement}
 use Rattle.calls.proofs.say.put_buffer.Tie as tie

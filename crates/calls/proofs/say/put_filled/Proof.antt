@@ -2,7 +2,8 @@
 -- Assumes nothing.
 use native.Mathlib.Omega.{arith}
 use Rattle.fill.specs.Answer.{filledSays}
-use Rattle.calls.proofs.Saying.{code-refused, filled-done}
+use Rattle.numbers.proofs.Codes.{code-refused, filled-done}
+use Rattle.text.proofs.Rooms.{room-within}
 use borrow.Author.Needs.{needs}
 use Rattle.calls.proofs.say.put_filled.Statement.{statement}
 use Rattle.calls.proofs.say.put_filled.Tie as tie
@@ -21,11 +22,11 @@ returns c =
     let start = c .before .before .before .before .before .before .before .before in
     rw (code-refused _ (filledSays (start .args .answer)) (c .before .before .before .before .before .before .of-filled .ensures) (c .before .before .before .before .if1 .taken)) (c .before .before .put-refused .ensures)
 
-slice-aggregate-put-counted : tie.Need-slice-aggregate-put-counted
-slice-aggregate-put-counted c = search needs
+slice-aggregate-put-field : tie.Need-slice-aggregate-put-field
+slice-aggregate-put-field c = search needs
 
-put-counted-requires : tie.Need-put-counted-requires
-put-counted-requires c κs = search needs
+put-field-requires : tie.Need-put-field-requires
+put-field-requires c κs = search needs
 
 same-length-2 : tie.Need-same-length-2
 same-length-2 c = search needs
@@ -33,9 +34,9 @@ same-length-2 c = search needs
 returns-2 : tie.Need-returns-2
 returns-2 c =
     let start = c .before .before .before .before .before .before .before .before .before in
-    let counted = c .before .before .put-counted .ensures in
+    let counted = c .before .before .put-field .ensures in
     rw (filled-done _ (start .args .answer) (c .before .before .before .before .before .before .before .of-filled .ensures) (c .before .before .before .before .before .if1 .left))
-    (record { puts = counted .0; short = omega (arith, counted .1) })
+    (room-within 50 (omega arith) counted)
 
 pub put-filled-spec : {M : Type 1} → statement M
 put-filled-spec =
@@ -45,7 +46,7 @@ put-filled-spec =
     put-refused-requires
     same-length
     returns
-    slice-aggregate-put-counted
-    put-counted-requires
+    slice-aggregate-put-field
+    put-field-requires
     same-length-2
     returns-2)

@@ -2,7 +2,7 @@
 -- Assumes nothing.
 use native.Mathlib.Omega.{arith}
 use Rattle.lists.specs.Answer.{listedSays}
-use Rattle.calls.proofs.Saying.{code-refused, listed-done}
+use Rattle.numbers.proofs.Codes.{code-refused, listed-done}
 use borrow.Author.Needs.{needs}
 use Rattle.calls.proofs.say.put_listed.Statement.{statement}
 use Rattle.calls.proofs.say.put_listed.Tie as tie

@@ -2,7 +2,8 @@
 -- Assumes nothing.
 use native.Mathlib.Omega.{arith}
 use Rattle.fits.specs.Answer.{testedSays}
-use Rattle.calls.proofs.Saying.{code-refused, code-broken, tested-done}
+use Rattle.numbers.proofs.Codes.{code-refused, code-broken, tested-done}
+use Rattle.text.proofs.Rooms.{room-within}
 use borrow.Author.Needs.{needs}
 use Rattle.calls.proofs.say.put_tested.Statement.{statement}
 use Rattle.calls.proofs.say.put_tested.Tie as tie
@@ -21,11 +22,11 @@ returns c =
     let start = c .before .before .before .before .before .before .before .before in
     rw (code-refused _ (testedSays (start .args .answer)) (c .before .before .before .before .before .before .of-tested .ensures) (c .before .before .before .before .if1 .taken)) (c .before .before .put-refused .ensures)
 
-slice-aggregate-put-counted : tie.Need-slice-aggregate-put-counted
-slice-aggregate-put-counted c = search needs
+slice-aggregate-put-field : tie.Need-slice-aggregate-put-field
+slice-aggregate-put-field c = search needs
 
-put-counted-requires : tie.Need-put-counted-requires
-put-counted-requires c κs = search needs
+put-field-requires : tie.Need-put-field-requires
+put-field-requires c κs = search needs
 
 same-length-2 : tie.Need-same-length-2
 same-length-2 c = search needs
@@ -33,9 +34,9 @@ same-length-2 c = search needs
 returns-2 : tie.Need-returns-2
 returns-2 c =
     let start = c .before .before .before .before .before .before .before .before .before .before .before in
-    let counted = c .before .before .put-counted .ensures in
+    let counted = c .before .before .put-field .ensures in
     rw (code-broken _ (testedSays (start .args .answer)) (c .before .before .before .before .before .before .before .before .before .of-tested .ensures) (c .before .before .before .before .before .if2 .taken))
-    (record { puts = counted .0; short = omega (arith, counted .1) })
+    (room-within 50 (omega arith) counted)
 
 slice-aggregate-put-bytes : tie.Need-slice-aggregate-put-bytes
 slice-aggregate-put-bytes c = search needs
@@ -61,8 +62,8 @@ put-tested-spec =
     put-refused-requires
     same-length
     returns
-    slice-aggregate-put-counted
-    put-counted-requires
+    slice-aggregate-put-field
+    put-field-requires
     same-length-2
     returns-2
     slice-aggregate-put-bytes

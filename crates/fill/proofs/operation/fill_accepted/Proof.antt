@@ -9,7 +9,7 @@ use lib.Seq.{length-take-le}
 use Rattle.spec.specs.Records.{rulesIn}
 use Rattle.spec.specs.Fill.{closureOf}
 use Rattle.theory.proofs.Numbered.{rules-good}
-use Rattle.fill.specs.Answer.{IsFilled}
+use Rattle.fill.specs.Answer.{FillsTo}
 use Rattle.theory.proofs.Form.{form-passed}
 use Rattle.theory.proofs.Filling.{fill-clash}
 use Rattle.theory.proofs.Loading.{loaded-clash, loaded-none, loaded-closed}
@@ -57,7 +57,7 @@ rest-size c =
     )
 
 -- and the first of them are the closure
-rest-filled : (c : tie.Else1) → IsFilled (c .before .before .before .before .before .before .before .before .before .args .maker .now) (c .before .before .before .before .before .before .before .before .before .args .depot .now) (c .before .before .before .before .before .before .before .before .before .args .sheet .now) (take (length (c .before .before .before .before .before .before .before .before .before .args .sheet .now)) (c .before .run .last .1 .1 .0))
+rest-filled : (c : tie.Else1) → FillsTo (c .before .before .before .before .before .before .before .before .before .args .maker .now) (c .before .before .before .before .before .before .before .before .before .args .depot .now) (c .before .before .before .before .before .before .before .before .before .args .sheet .now) (take (length (c .before .before .before .before .before .before .before .before .before .args .sheet .now)) (c .before .run .last .1 .1 .0))
 unfolding closureOf
 rest-filled c =
     let start = c .before .before .before .before .before .before .before .before .before in
@@ -80,7 +80,7 @@ hand-out-requires : tie.Need-hand-out-requires
 hand-out-requires c κs =
     let start = c .before .before .before .before .before .before .before .before .before .before .before in (
       start .pre .call,
-      subst (λ (k : ℕ). IsFilled (start .args .maker .now) (start .args .depot .now) (start .args .sheet .now) (take k (c .before .before .before .run .last .1 .1 .0))) (sym (start .pre .boxes)) (rest-filled (c .before .before)),
+      subst (λ (k : ℕ). FillsTo (start .args .maker .now) (start .args .depot .now) (start .args .sheet .now) (take k (c .before .before .before .run .last .1 .1 .0))) (sym (start .pre .boxes)) (rest-filled (c .before .before)),
     )
 
 same-length : tie.Need-same-length

@@ -2,7 +2,8 @@
 -- Assumes nothing.
 use borrow.Author.Needs.{needs}
 use Rattle.report.specs.Listing.{listingOf}
-use Rattle.report.proofs.Rooms.{front-size, front-boxed, room-front}
+use Rattle.text.proofs.Rooms.{room-front}
+use Rattle.report.proofs.Rooms.{front-size, front-boxed}
 use Rattle.report.proofs.listing.listing.Statement.{statement}
 use Rattle.report.proofs.listing.listing.Tie as tie
 

@@ -8,7 +8,7 @@ use borrow.Author.Tests.{not-true, not-false}
 use lib.ListN.{length}
 use Rattle.spec.specs.Kits.{kits}
 use Rattle.text.proofs.Puts.{put-length}
-use Rattle.report.proofs.Rooms.{room-length}
+use Rattle.text.proofs.Rooms.{room-length}
 use Rattle.report.proofs.Filling.{passed-boxes}
 use Rattle.report.proofs.Showing.{Showing, showing-start, showing-length, showing-full, showing-digits, showing-next, showing-more, showing-end}
 use Rattle.report.proofs.listing.put_kits.Statement.{statement}

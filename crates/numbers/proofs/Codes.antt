@@ -1,14 +1,8 @@
--- What an operation says as three numbers, and in words; and how long the words are.
+-- What the first of the three numbers tells: 1 stands for a refusal alone, 2 for a broken record alone, 0 for what was asked.
 -- Assumes nothing.
 use mathlib.Core.Path.{_≡_, refl, _∙_, ap}
-use mathlib.Core.List.{List, [], _∷_}
-use Prim.Native.Nat.{ℕ, _+_, _*_, _^_, _≤_, _<_}
-use native.Mathlib.Omega.{arith}
-use lib.ListN.{length}
+use mathlib.Core.List.{[], _∷_}
 use Rattle.spec.specs.Refusals.{Said, refused, passed, fits, broken, filled, list}
-use Rattle.text.specs.Spelling.{decimal, hexPair, hexOf}
-use Rattle.text.proofs.Spells.{spelt-length, hex-some, hex-none}
-use Rattle.text.proofs.Decimals.{decimal-length}
 use Rattle.accept.proofs.Refused.{numbered}
 use Rattle.accept.specs.declared.form.Refusal.{Refusal}
 use Rattle.accept.specs.Form.{refusalSays}
@@ -21,17 +15,9 @@ use Rattle.fill.specs.Answer.{filledSays}
 use Rattle.lists.specs.declared.operation.Listed.{Listed}
 use Rattle.lists.specs.declared.operation.Listed.the-variants as listed
 use Rattle.lists.specs.Answer.{listedSays}
 use Rattle.numbers.specs.declared.Numbers.{Numbers}
 use Rattle.numbers.specs.Numbering.{threeOf, inOrder}
 
-pub decimal-short-enough : (n : ℕ) → n < 2 ^ 64 → length (decimal n) ≤ 20
-decimal-short-enough n h = decimal-length 19 n (omega arith)
-
-pub hex-length : (l : List ℕ) → length (hexOf l) ≤ 2 * length l + 1
-hex-length [] = rw (hex-none [] refl) (omega arith)
-hex-length (b ∷ l) = rw (hex-some (b ∷ l) (omega arith)) (omega (arith, spelt-length hexPair 2 (λ b. refl) (b ∷ l)))
-
--- the first of the three numbers is 1 just for a refusal, and 2 just for a broken record
 module _ (n : Numbers) where
   pub code-refused : (s : Said) → inOrder n ≡ threeOf s → n .code ≡ 1 → s ≡ refused (n .first) (n .second)
   code-refused (refused number place) e c = cc

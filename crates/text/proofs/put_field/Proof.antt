@@ -1,18 +1,13 @@
--- `report::lines::put_field` meets its contract: a number that fits a `usize` has at most 20 digits.
+-- `text::put_field` meets its contract: a number that fits a `usize` has at most 20 digits.
 -- Assumes nothing.
-use Prim.Native.Nat.{ℕ, _^_, _≤_, _<_}
 use native.Mathlib.Omega.{arith}
 use borrow.Author.Needs.{needs}
-use lib.ListN.{length, length-append}
+use lib.ListN.{length-append}
 use Rattle.text.specs.Spelling.{decimal}
 use Rattle.text.proofs.Puts.{put-then, put-length}
-use Rattle.text.proofs.Decimals.{decimal-length}
-use Rattle.report.proofs.Rooms.{room-of}
-use Rattle.report.proofs.lines.put_field.Statement.{statement}
-use Rattle.report.proofs.lines.put_field.Tie as tie
-
-digits : (n : ℕ) → n < 2 ^ 64 → length (decimal n) ≤ 20
-digits n h = decimal-length 19 n (omega arith)
+use Rattle.text.proofs.Rooms.{usize-digits, room-of}
+use Rattle.text.proofs.put_field.Statement.{statement}
+use Rattle.text.proofs.put_field.Tie as tie
 
 put-bytes-requires : tie.Need-put-bytes-requires
 put-bytes-requires c κs = search needs
@@ -21,7 +16,7 @@ put-decimal-requires : tie.Need-put-decimal-requires
 put-decimal-requires c κs =
     let start = c .before .before .before .before .before .before .before in
     let word = c .before .before .before .put-bytes .ensures in
-    omega (arith, word .after, put-length word, digits (start .args .n) (omega arith))
+    omega (arith, word .after, put-length word, usize-digits (start .args .n) (omega arith))
 
 same-length : tie.Need-same-length
 same-length c = search needs
@@ -30,7 +25,7 @@ returns : tie.Need-returns
 returns c =
     let start = c .before .before .before .before .before .before .before .before .before .before in
     room-of _ (put-then (c .before .before .before .before .before .before .put-bytes .ensures) (c .before .before .put-decimal .ensures))
-    (omega (arith, length-append (start .args .word .now) (decimal (start .args .n)), digits (start .args .n) (omega arith)))
+    (omega (arith, length-append (start .args .word .now) (decimal (start .args .n)), usize-digits (start .args .n) (omega arith)))
 
 pub put-field-spec : {M : Type 1} → statement M
 put-field-spec = tie.close (tie.spec put-bytes-requires put-decimal-requires same-length returns)
