@@ -63,6 +63,12 @@ pub fn knot(rng: &mut Rng) -> Kit {
     Kit { fitting: None, ..links.kit() }
 }
 
+/// AND or OR of a box and an anchor, in either order.
+fn anchored(rng: &mut Rng, kind: u8, a: usize, b: usize, anchor: usize) -> Bytes {
+    let (x, y) = if rng.chance(50) { (a, anchor) } else { (anchor, a) };
+    encode(kind, &[x, y, b])
+}
+
 struct Links {
     path: Vec<usize>,
     /// States under which every link holds.
@@ -107,11 +113,7 @@ impl Links {
             }
             records.push(match kind {
                 1 | 2 => encode(kind, &[a, b]),
-                _ => {
-                    let anchor = anchors[kind as usize - 3];
-                    let (x, y) = if rng.chance(50) { (a, anchor) } else { (anchor, a) };
-                    encode(kind, &[x, y, b])
-                }
+                _ => anchored(rng, kind, a, b, anchors[kind as usize - 3]),
             });
         }
         Links { path, states, records, sheet }

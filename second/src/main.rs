@@ -3,6 +3,7 @@
 //!
 //! It shares no code with the library. What the specification leaves open is read as docs/DECISIONS.md has it.
 
+mod bent;
 mod bugs;
 mod call;
 mod calls;

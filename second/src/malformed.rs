@@ -49,14 +49,12 @@ fn spoil(rng: &mut Rng, good: &Call) -> Vec<u8> {
             line[at] = rng.pick(b"ABCDEFGgxz/:@`-+.# \xff\x80\0");
         }
         14 => line = line.to_ascii_uppercase(),
-        // too long, by one character or by many
-        _ => {
-            if rng.chance(30) {
-                let over = rng.pick(&[1, 2, 3, 1000, 100_000]);
-                return long_line(rng, LONGEST_LINE + over);
-            }
-            line.truncate(rng.below(line.len()));
+        // too long, by one character or by many; or cut anywhere
+        _ if rng.chance(30) => {
+            let over = rng.pick(&[1, 2, 3, 1000, 100_000]);
+            return long_line(rng, LONGEST_LINE + over);
         }
+        _ => line.truncate(rng.below(line.len())),
     }
     line
 }

@@ -34,15 +34,72 @@ pub const LISTING_BUGS: &[&str] = &[
     "65 lists are written",
 ];
 
+/// A probe with at most one bug, and what it remembers of the lines before.
+struct Probe {
+    bug: usize,
+    lose: bool,
+    nine: bool,
+}
+
+impl Probe {
+    fn has(&self, line_bug: usize) -> bool {
+        self.bug == BUGS.len() + line_bug
+    }
+
+    /// The line as the program takes it; None where it is passed over.
+    fn taken(&self, mut line: Vec<u8>, whole: bool) -> Option<Vec<u8>> {
+        if self.has(10) && !whole || line.is_empty() || line[0] == b'#' && !self.has(4) {
+            return None;
+        }
+        if self.has(3) {
+            line.make_ascii_lowercase();
+        }
+        if self.has(9) && line.len() == crate::call::LONGEST_LINE {
+            line.extend(b"0000");
+        }
+        Some(line)
+    }
+
+    fn answer(&mut self, line: &[u8]) -> Option<String> {
+        let call = match Call::parse(line) {
+            Err(reason) => {
+                self.lose = self.has(1);
+                let times = if self.has(2) { 2 } else { 1 };
+                return Some(vec![format!("error {reason}"); times].join("\n"));
+            }
+            Ok(call) => call,
+        };
+        if std::mem::take(&mut self.lose) {
+            return None;
+        }
+        let wrong = BUGS.get(self.bug.wrapping_sub(1)).and_then(|(_, wrong)| wrong(&call));
+        let right = || answer(&call).map_or("too long".to_string(), |answer| answer.line(&call));
+        Some(wrong.unwrap_or_else(right))
+    }
+
+    /// The answer as the program writes it.
+    fn written(&mut self, line: &[u8], mut text: String) -> String {
+        if self.has(6) && self.nine {
+            text = text.replacen("refused 7", "refused 9", 1);
+        }
+        self.nine = text.starts_with("refused 9") && line.starts_with(b"next");
+        if self.has(5) {
+            text.push('\r');
+        }
+        if self.has(8) {
+            text = text.replace(" .", " ");
+        }
+        text
+    }
+}
+
 /// Answers probe lines until the input ends. Bug 0 is none.
 pub fn probe(bug: usize) -> io::Result<()> {
-    let line_bug = |number: usize| bug == BUGS.len() + number;
+    let mut probe = Probe { bug, lose: false, nine: false };
     let mut out = io::BufWriter::new(io::stdout().lock());
     let mut input = io::stdin().lock();
-    let mut line = Vec::new();
-    let (mut lose, mut nine) = (false, false);
     loop {
-        line.clear();
+        let mut line = Vec::new();
         if input.read_until(b'\n', &mut line)? == 0 {
             return out.flush();
         }
@@ -50,49 +107,14 @@ pub fn probe(bug: usize) -> io::Result<()> {
         if whole {
             line.pop();
         }
-        if line_bug(10) && !whole {
-            continue;
+        let Some(line) = probe.taken(line, whole) else { continue };
+        if probe.has(7) && Call::parse(&line).is_ok_and(|call| call.sheet.len() == 40) {
+            out.flush()?;
+            std::process::abort();
         }
-        if line.is_empty() || line[0] == b'#' && !line_bug(4) {
-            continue;
+        if let Some(text) = probe.answer(&line) {
+            writeln!(out, "{}", probe.written(&line, text))?;
         }
-        if line_bug(3) {
-            line.make_ascii_lowercase();
-        }
-        if line_bug(9) && line.len() == crate::call::LONGEST_LINE {
-            line.extend(b"0000");
-        }
-        let mut text = match Call::parse(&line) {
-            Err(reason) => {
-                lose = line_bug(1);
-                let times = if line_bug(2) { 2 } else { 1 };
-                vec![format!("error {reason}"); times].join("\n")
-            }
-            Ok(_) if lose => {
-                lose = false;
-                continue;
-            }
-            Ok(call) if line_bug(7) && call.sheet.len() == 40 => {
-                out.flush()?;
-                std::process::abort();
-            }
-            Ok(call) => {
-                let wrong = BUGS.get(bug.wrapping_sub(1)).and_then(|(_, wrong)| wrong(&call));
-                let right = || answer(&call).map_or("too long".to_string(), |answer| answer.line(&call));
-                wrong.unwrap_or_else(right)
-            }
-        };
-        if line_bug(6) && nine {
-            text = text.replacen("refused 7", "refused 9", 1);
-        }
-        nine = text.starts_with("refused 9") && line.starts_with(b"next");
-        if line_bug(5) {
-            text.push('\r');
-        }
-        if line_bug(8) {
-            text = text.replace(" .", " ");
-        }
-        writeln!(out, "{text}")?;
     }
 }
 
