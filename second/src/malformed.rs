@@ -51,7 +51,7 @@ fn spoil(rng: &mut Rng, good: &Call) -> Vec<u8> {
         14 => line = line.to_ascii_uppercase(),
         // too long, by one character or by many; or cut anywhere
         _ if rng.chance(30) => {
-            let over = rng.pick(&[1, 2, 3, 1000, 100_000]);
+            let over = rng.pick(&[1, 2, 3, 1000, 100_000, 700_000]);
             return long_line(rng, LONGEST_LINE + over);
         }
         _ => line.truncate(rng.below(line.len())),
@@ -77,9 +77,10 @@ pub fn long_line(rng: &mut Rng, characters: usize) -> Vec<u8> {
 
 /// A line that is passed over without an answer.
 pub fn passed_over(rng: &mut Rng, good: &Call) -> Vec<u8> {
-    match rng.below(4) {
+    match rng.below(5) {
         0 => Vec::new(),
         1 => b"#".to_vec(),
+        2 if rng.chance(30) => vec![b'#'; LONGEST_LINE + rng.pick(&[0, 1, 500_000])],
         2 => format!("# {}", rng.next()).into_bytes(),
         _ => format!("#{}", good.line()).into_bytes(),
     }

@@ -20,6 +20,7 @@ pub const LINE_BUGS: &[&str] = &[
     "an empty buffer is written as nothing",
     "lines of 200,000 characters are too long",
     "the last line without its line feed is lost",
+    "the rest of a line that is too long is answered as a line",
 ];
 
 pub const LISTING_BUGS: &[&str] = &[
@@ -64,7 +65,8 @@ impl Probe {
         let call = match Call::parse(line) {
             Err(reason) => {
                 self.lose = self.has(1);
-                let times = if self.has(2) { 2 } else { 1 };
+                let twice = self.has(2) || self.has(11) && reason == "long";
+                let times = if twice { 2 } else { 1 };
                 return Some(vec![format!("error {reason}"); times].join("\n"));
             }
             Ok(call) => call,

@@ -13,12 +13,12 @@ use lib.ListN.{length, getD, take, drop}
 use borrow.Author.Tests.{lt-ltb, le-ltb, eq-eqb, ne-eqb}
 use Rattle.lemmas.specs.Lists.{all}
 use Rattle.text.specs.Spelling.{ascii}
-use Rattle.calls.specs.Words.{wordOf}
+use Rattle.calls.specs.Words.{wordOf, isKnown, arity}
 use Rattle.fields.specs.Cuts.{until}
 use Rattle.fields.specs.Fields.{fieldsOf, isField}
 use Rattle.calls.specs.Answers.{errorFor, answerTo}
 use Rattle.fields.specs.Parts.{HasFields}
-use Rattle.calls.specs.Lines.{isKnown, arity, lineWord, answerOf, replyTo}
+use Rattle.calls.specs.Lines.{lineWord, answerOf, replyTo}
 use Rattle.calls.specs.declared.word.Word.{Word}
 use Rattle.calls.specs.declared.word.Word.the-variants.{Fill, Test, Show, First, Next, Unknown}
 use Rattle.calls.proofs.word.Word.{the-type}

@@ -6,8 +6,7 @@ use Rattle.spec.specs.Refusals.{Said, refused, passed, fits, broken, filled, li
 use Rattle.spec.specs.Fits.{testSays, showsPart, bytesOf}
 use Rattle.spec.specs.Fill.{fillSays, fillWrites}
 use Rattle.spec.specs.Kits.{firstSays, firstWrites, nextSays, nextWrites}
-use Rattle.text.specs.Spelling.{hexOf, field}
-use Rattle.text.specs.Spelling.{ascii, field}
+use Rattle.text.specs.Spelling.{ascii, field, hexOf}
 use Rattle.fields.specs.Fields.{part}
 use Rattle.calls.specs.declared.word.Word.{Word}
 use Rattle.calls.specs.declared.word.Word.the-variants.{Fill, Test, Show, First, Next, Unknown}

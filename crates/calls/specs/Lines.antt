@@ -1,34 +1,16 @@
 -- What is written for a line: nothing, or its answer and a line feed. This is all that has to be believed of the line protocol.
 -- Assumes nothing.
-use mathlib.Core.Bool.{Bool, true, false, cond}
+use mathlib.Core.Bool.{cond}
 use mathlib.Core.List.{List, [], _∷_, _++_}
 use Prim.Native.Nat.{ℕ, _+_}
 use lib.Dec.{ltb, eqb}
 use lib.ListN.{length, getD, drop}
 use Rattle.lemmas.specs.Lists.{all}
 use Rattle.text.specs.Spelling.{ascii}
-use Rattle.calls.specs.Words.{wordOf}
+use Rattle.calls.specs.Words.{wordOf, isKnown, arity}
 use Rattle.fields.specs.Fields.{fieldsOf, isField}
 use Rattle.calls.specs.Answers.{errorFor, answerTo}
 use Rattle.calls.specs.declared.word.Word.{Word}
-use Rattle.calls.specs.declared.word.Word.the-variants.{Fill, Test, Show, First, Next, Unknown}
-
-abbrev pub isKnown : Word → Bool
-isKnown Fill = true
-isKnown Test = true
-isKnown Show = true
-isKnown First = true
-isKnown Next = true
-isKnown Unknown = false
-
--- how many fields follow the word
-abbrev pub arity : Word → ℕ
-arity Fill = 4
-arity Test = 3
-arity Show = 3
-arity First = 4
-arity Next = 5
-arity Unknown = 0
 
 -- the word that the line begins with
 abbrev pub lineWord : List ℕ → Word

@@ -1,6 +1,6 @@
 -- The words of the calls.
 -- Assumes nothing.
-use mathlib.Core.Bool.{cond}
+use mathlib.Core.Bool.{Bool, true, false, cond}
 use mathlib.Core.List.{List}
 use Prim.Native.Nat.{ℕ}
 use Rattle.fields.specs.Fields.{is}
@@ -15,3 +15,20 @@ wordOf w =
     (cond (is w "first") First
     (cond (is w "next") Next
     Unknown))))
+
+abbrev pub isKnown : Word → Bool
+isKnown Fill = true
+isKnown Test = true
+isKnown Show = true
+isKnown First = true
+isKnown Next = true
+isKnown Unknown = false
+
+-- how many fields follow the word
+abbrev pub arity : Word → ℕ
+arity Fill = 4
+arity Test = 3
+arity Show = 3
+arity First = 4
+arity Next = 5
+arity Unknown = 0

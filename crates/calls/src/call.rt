@@ -4,7 +4,7 @@ ghost use lib.ListN.{length, drop};
 ghost use Rattle.fields.specs.Fields.{fieldsOf};
 ghost use Rattle.text.specs.Putting.{PutWithin};
 ghost use Rattle.calls.specs.Answers.{answerTo};
-ghost use Rattle.calls.specs.Lines.{arity};
+ghost use Rattle.calls.specs.Words.{arity};
 ghost use Rattle.fields.specs.Parts.{HasFields};
 ghost use Rattle.calls.specs.Room.{Room};
 use crate::operation::answer_fill;

@@ -25,9 +25,9 @@ pub const LONGEST: usize = 200000;
 
 const HASH: u8 = 35;
 
-const LINE_FEED: u8 = 10;
+pub const LINE_FEED: u8 = 10;
 
-// The answer to a line of some characters.
+// The answer to a line that is neither empty nor begins with #.
 fn answer(line: &[u8], bytes: &mut [u8], out: &mut [u8], text: &mut [u8], at: usize) -> usize
     requires { ⌜ Room (now line) (now bytes) (now out) (now text) at ⌝ }
     ensures { λ r. ⌜ PutWithin (52 + length (now (line .entry))) (now (text .entry)) at (answerOf (now (line .entry))) (now (text .exit)) r ⌝ }

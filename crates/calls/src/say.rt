@@ -10,14 +10,13 @@ ghost use Rattle.calls.specs.Answers.{wordsOf, errorFor, spaced};
 use desk::Filled;
 use desk::Listed;
 use desk::Tested;
+use fields::field::SPACE;
 use numbers::BROKEN;
 use numbers::REFUSED;
 use text::put_byte;
 use text::put_bytes;
 use text::put_field;
 use text::put_hex;
-
-const SPACE: u8 = 32;
 
 pub fn put_error(text: &mut [u8], at: usize, reason: &[u8]) -> usize
     requires { ⌜ at + 6 + length (now reason) ≤ length (now text) ⌝ }

@@ -1,7 +1,6 @@
 // The word of a call: which operation it asks for.
 ghost use mathlib.Core.Path.{_≡_};
-ghost use Rattle.calls.specs.Words.{wordOf};
-ghost use Rattle.calls.specs.Lines.{arity};
+ghost use Rattle.calls.specs.Words.{wordOf, arity};
 
 pub enum Word {
     Fill,

@@ -2,6 +2,7 @@ pub mod Tests
 pub mod Members
 pub mod Those
 pub mod Reading
+pub mod Slices
 pub mod Counts
 pub mod Lowest
 pub mod Pairs

@@ -7,11 +7,12 @@ ghost use Prim.Native.Nat.{_≤_};
 ghost use lib.ListN.{length};
 ghost use Rattle.stream.specs.Input.{RoomForLines};
 
-// What is at hand is the first `size` bytes of the input's buffer; `skipping` says that they start inside a line that is
-// answered already. There are more turns only while `going`.
-struct Hand {
+// What is at hand is the first `size` bytes of the input's buffer; `skipping` is what the last turn said of them. There are more turns
+// only while `going`.
+struct State {
     size: usize,
     skipping: bool,
+    ended: bool,
     going: bool,
 }
 
@@ -29,12 +30,13 @@ fn page() -> [u8; 400000]
     [0; 400000]
 }
 
-fn stop() -> Hand
+fn stop() -> State
     ensures { λ r. ⌜ r .size ≡ 0 ⌝ }
 {
-    Hand {
+    State {
         size: 0,
         skipping: false,
+        ended: true,
         going: false,
     }
 }
@@ -47,29 +49,8 @@ fn write(text: &[u8]) -> bool {
     ok
 }
 
-// The input ends: a line that is not answered yet lacks only its line feed.
-fn last(input: &[u8], skipping: bool, bytes: &mut [u8], out: &mut [u8], text: &mut [u8])
-    requires { ⌜ RoomForLines (now bytes) (now out) (now text) ⌝ }
-    requires { ⌜ length (now input) ≤ 200000 ⌝ }
-{
-    if skipping {
-        return;
-    }
-    let at = stream::finish(input, bytes, out, text);
-    write(&text[0..at]);
-}
-
-// No full line is at hand: reads more, or answers the last line where there is no more.
-fn read_more(
-    size: usize,
-    skipping: bool,
-    input: &mut [u8],
-    bytes: &mut [u8],
-    out: &mut [u8],
-    text: &mut [u8],
-) -> Hand
-    requires { ⌜ RoomForLines (now bytes) (now out) (now text) ⌝ }
-    requires { ⌜ size ≤ 200000 ⌝ }
+// Reads more, behind what is at hand. The input ends where there is no more; a turn that waits leaves room for some.
+fn read_more(input: &mut [u8], size: usize, skipping: bool) -> State
     requires { ⌜ size ≤ length (now input) ⌝ }
     ensures { λ r. ⌜ r .size ≤ length (now (input .exit)) ⌝ }
 {
@@ -79,52 +60,53 @@ fn read_more(
         return stop();
     }
     let more = io::count(got, &input[size..]);
-    if more == 0 {
-        last(&input[0..size], skipping, bytes, out, text);
-        return stop();
-    }
-    Hand {
+    State {
         size: size + more,
         skipping,
+        ended: more == 0,
         going: true,
     }
 }
 
-// Writes the answers to the full lines at hand and gives these up, or reads more.
-fn turn(hand: Hand, input: &mut [u8], bytes: &mut [u8], out: &mut [u8], text: &mut [u8]) -> Hand
+fn turn(state: State, input: &mut [u8], bytes: &mut [u8], out: &mut [u8], text: &mut [u8]) -> State
     requires { ⌜ RoomForLines (now bytes) (now out) (now text) ⌝ }
-    requires { ⌜ hand .size ≤ length (now input) ⌝ }
+    requires { ⌜ state .size ≤ length (now input) ⌝ }
     ensures { λ r. ⌜ r .size ≤ length (now (input .exit)) ⌝ }
 {
-    let size = hand.size;
-    let step = stream::advance(&input[0..size], hand.skipping, bytes, out, text);
-    let at = step.at;
+    let ended = state.ended;
+    let hand = stream::turn(input, state.size, state.skipping, ended, bytes, out, text);
+    let at = hand.at;
     if !write(&text[0..at]) {
         return stop();
     }
-    if step.from == 0 {
-        return read_more(size, step.skipping, input, bytes, out, text);
+    if !hand.waits {
+        return State {
+            size: hand.size,
+            skipping: hand.skipping,
+            ended,
+            going: true,
+        };
     }
-    Hand {
-        size: stream::keep(input, step.from, size),
-        skipping: step.skipping,
-        going: true,
+    if ended {
+        return stop();
     }
+    read_more(input, hand.size, hand.skipping)
 }
 
 // A proved loop has to end, and nothing says that the input does. So the turns are counted down, from more than any run makes.
 fn turns(input: &mut [u8], bytes: &mut [u8], out: &mut [u8], text: &mut [u8])
     requires { ⌜ RoomForLines (now bytes) (now out) (now text) ⌝ }
 {
-    let mut hand = Hand {
+    let mut state = State {
         size: 0,
         skipping: false,
+        ended: false,
         going: true,
     };
     let mut left = u64::MAX;
     while left > 0 {
-        hand = turn(hand, input, bytes, out, text);
-        if !hand.going {
+        state = turn(state, input, bytes, out, text);
+        if !state.going {
             return;
         }
         left -= 1;

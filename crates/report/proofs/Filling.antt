@@ -15,7 +15,7 @@ use Rattle.spec.proofs.Judge.{judge-append, judge-passes, judge-reached, refuse
 use Rattle.fill.specs.declared.operation.Filled.{Filled}
 use Rattle.fill.specs.Answer.{filledSays, FillDoes}
 use Rattle.report.specs.Listing.{refusedLine, headerLine, kitLines, listingBy, listingOf}
-use Rattle.report.specs.Turns.{Boxed}
+use Rattle.report.specs.Turns.{RoomForSheet}
 
 -- tables and sheet that pass: there are no more than 256 boxes
 pub passed-boxes : (maker depot sheet : List ℕ) → judge (sheetChecks maker depot sheet) passed ≡ passed → length sheet ≤ 256
@@ -25,7 +25,7 @@ passed-boxes maker depot sheet e = ltb-false _ _ (judge-passes (sheetChecks make
 filled-answers : (count number place : ℕ) → refused number place ≡ filled count → ⊥
 filled-answers count number place e = let z : _≡_ {A = ℕ} 0 1 = cc in omega arith
 
-module _ (maker depot sheet out : List ℕ) (boxed : Boxed sheet out) where
+module _ (maker depot sheet out : List ℕ) (boxed : RoomForSheet sheet out) where
   -- of the out buffer only its length matters, and that only for a sheet of at most 256 boxes
   says-same : fillSays maker depot sheet out ≡ fillSays maker depot sheet sheet
   unfolding fillSays boxesCheck outCheck

@@ -8,7 +8,7 @@ use lib.ListN.{length, take}
 use lib.Seq.{length-take-le}
 use Rattle.text.specs.Spelling.{digit, digitsOf}
 use Rattle.text.proofs.Spells.{spelt-length}
-use Rattle.report.specs.Turns.{Boxed}
+use Rattle.report.specs.Turns.{RoomForSheet}
 
 -- a digit a byte
 pub digits-length : (l : List ℕ) → length (digitsOf l) ≡ length l
@@ -20,5 +20,5 @@ pub front-size : (n : ℕ) (buffer : List ℕ) → n ≤ 256 → 256 ≡ length 
 front-size n buffer h e = sym (length-take-le n buffer (omega arith))
 
 pub front-boxed : (n : ℕ) (sheet buffer : List ℕ) → n ≤ 256 → (length sheet ≤ 256 → n ≡ length sheet) → 256 ≡ length buffer →
-    Boxed sheet (take n buffer)
+    RoomForSheet sheet (take n buffer)
 front-boxed n sheet buffer h same e = record { size = λ few. sym (front-size n buffer h e) ∙ same few }

@@ -16,6 +16,7 @@ use Rattle.spec.specs.Refusals.{boxesCheck, makerCheck, depotCheck, countCheck,
 use Rattle.spec.specs.Fits.{isIn, breaks, firstBroken}
 use Rattle.spec.specs.Fill.{closureOf, clashes, boxesFilled, openCount, clashCheck, brokenCheck, fillSays, fillWrites}
 use Rattle.spec.specs.Kits.{fullLists, keeps, fitsAll, kits}
+use Rattle.spec.proofs.Samples.{and-record, equ-record, same-record, not-record}
 use Rattle.report.specs.Listing.{refusedLine, headerLine, listLine, endLine, lastLine, kitLines, listingBy, listingOf}
 
 pub record Sample : Type 0 where
@@ -23,21 +24,6 @@ pub record Sample : Type 0 where
   pub depot : List ℕ
   pub sheet : List ℕ
   pub paper : String
-
--- maker's record: box 0 and box 1 = box 2
-and-record : List ℕ
-and-record = 3 ∷ 0 ∷ 0 ∷ 0 ∷ 1 ∷ 0 ∷ 2 ∷ 0 ∷ []
-
--- depot's record: box 0 = box 2
-equ-record : List ℕ
-equ-record = 1 ∷ 0 ∷ 0 ∷ 0 ∷ 2 ∷ 0 ∷ 255 ∷ 255 ∷ []
-
--- box 0 = box 1, and not box 0 = box 1
-same-record : List ℕ
-same-record = 1 ∷ 0 ∷ 0 ∷ 0 ∷ 1 ∷ 0 ∷ 255 ∷ 255 ∷ []
-
-not-record : List ℕ
-not-record = 2 ∷ 0 ∷ 0 ∷ 0 ∷ 1 ∷ 0 ∷ 255 ∷ 255 ∷ []
 
 abbrev onA : List ℕ → String → Sample
 onA sheet paper = record { maker = and-record; depot = equ-record; sheet = sheet; paper = paper }
@@ -59,7 +45,7 @@ pub paper-of : Sample → List ℕ
 paper-of p = ascii (p .paper)
 
 pub samples : map computed table ≡ map paper-of table
-unfolding table and-record equ-record same-record not-record computed paper-of
+unfolding table computed paper-of
     lowest kindOf placesOf meaning rulesOf recFrom recordAt recordCount rulesIn boxAt boxesOf noKind lacksZ twoEqual bad
     holds has names gives follows code round closed
     boxesCheck makerCheck depotCheck countCheck recordCheck sheetCheck outCheck

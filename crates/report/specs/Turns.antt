@@ -22,7 +22,7 @@ pub record Listable (maker depot sheet kit : List ℕ) : Type 0 where
   pub size : length kit ≡ length sheet
 
 -- a buffer for a sheet: it has the sheet's length, where the sheet has no more than 256 boxes
-pub record Boxed (sheet buffer : List ℕ) : Type 0 where
+pub record RoomForSheet (sheet buffer : List ℕ) : Type 0 where
   pub size : length sheet ≤ 256 → length buffer ≡ length sheet
 
 -- l is the first of these lists; or there is none

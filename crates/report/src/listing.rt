@@ -6,7 +6,7 @@ ghost use Rattle.io.specs.Counts.{Counts};
 ghost use Rattle.text.specs.Putting.{Put, PutWithin};
 ghost use Rattle.spec.specs.Kits.{kits};
 ghost use Rattle.report.specs.Listing.{kitLines, listingOf};
-ghost use Rattle.report.specs.Turns.{Listable, Boxed};
+ghost use Rattle.report.specs.Turns.{Listable, RoomForSheet};
 use crate::lines::put_end;
 use crate::lines::put_header;
 use crate::lines::put_list;
@@ -61,9 +61,9 @@ fn put_listing<'a>(
     kit: &mut [u8],
     out: &mut [u8],
 ) -> usize
-    requires { ⌜ Boxed (now sheet) (now filled) ⌝ }
-    requires { ⌜ Boxed (now sheet) (now given) ⌝ }
-    requires { ⌜ Boxed (now sheet) (now kit) ⌝ }
+    requires { ⌜ RoomForSheet (now sheet) (now filled) ⌝ }
+    requires { ⌜ RoomForSheet (now sheet) (now given) ⌝ }
+    requires { ⌜ RoomForSheet (now sheet) (now kit) ⌝ }
     requires { ⌜ 17000 ≤ length (now out) ⌝ }
     ensures { λ r. ⌜ PutWithin 17000 (now (out .entry)) 0 (listingOf (now (maker .entry)) (now (depot .entry)) (now (sheet .entry))) (now (out .exit)) r ⌝ }
 {

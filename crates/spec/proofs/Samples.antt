@@ -47,18 +47,18 @@ pub record Sample : Type 0 where
   pub paper : Answer
 
 -- maker's record: box 0 and box 1 = box 2
-and-record : List ℕ
+abbrev pub and-record : List ℕ
 and-record = 3 ∷ 0 ∷ 0 ∷ 0 ∷ 1 ∷ 0 ∷ 2 ∷ 0 ∷ []
 
 -- depot's record: box 0 = box 2
-equ-record : List ℕ
+abbrev pub equ-record : List ℕ
 equ-record = 1 ∷ 0 ∷ 0 ∷ 0 ∷ 2 ∷ 0 ∷ 255 ∷ 255 ∷ []
 
 -- box 0 = box 1, and not box 0 = box 1
-same-record : List ℕ
+abbrev pub same-record : List ℕ
 same-record = 1 ∷ 0 ∷ 0 ∷ 0 ∷ 1 ∷ 0 ∷ 255 ∷ 255 ∷ []
 
-not-record : List ℕ
+abbrev pub not-record : List ℕ
 not-record = 2 ∷ 0 ∷ 0 ∷ 0 ∷ 1 ∷ 0 ∷ 255 ∷ 255 ∷ []
 
 -- NOT of box 0 and box 0
@@ -108,7 +108,7 @@ paper-of p = p .paper
 
 -- P1 to P12, and no boxes under no rules: each call answers what the paper says
 pub samples : map computed table ≡ map paper-of table
-unfolding table and-record equ-record same-record not-record self-record computed paper-of
+unfolding table self-record computed paper-of
     lowest kindOf placesOf meaning rulesOf recFrom recordAt recordCount rulesIn boxAt boxesOf noKind lacksZ twoEqual bad
     holds has names gives follows code round closed
     boxesCheck makerCheck depotCheck countCheck recordCheck sheetCheck givenCheck outCheck listCheck

@@ -32,7 +32,7 @@ module _ (input : List ℕ) where
           writes = λ more.
               ap (λ (ps : List (List ℕ)). repliesTo (drop 1 ps)) (pieces-on 10 input more open-line)
               ∙ ap (λ (l : List ℕ). repliesTo (drop 1 (cutAt 10 (l ++ more)))) (sym (rest end e));
-          moves = λ none. (refl, omega arith, open-line);
+          moves = λ none. (refl, refl, omega arith, open-line);
         },
   )
     where
@@ -71,7 +71,7 @@ module _ (input : List ℕ) where
       Stepped input false text (record { from = 0; at = 0; skipping = false })
   unfolding outputIn
   step-wait text open-line short =
-      record { within = omega arith; room = omega arith; writes = λ more. refl; moves = λ none. (refl, short, open-line) }
+      record { within = omega arith; room = omega arith; writes = λ more. refl; moves = λ none. (refl, refl, short, open-line) }
 
   -- there is room for a line cut to one character too many
   pub cut-room : (bytes out text : List ℕ) → RoomForLines bytes out text → Room (take 200001 input) bytes out text 0
@@ -108,12 +108,12 @@ module _ (input : List ℕ) where
           ∙ sym (put-front (omega (arith, within .puts .after, fitting)) (within .puts))
 
 -- the last line
-pub finish-line : (input old text : List ℕ) (at : ℕ) → at ≤ length old → Put old 0 (replyTo input) text at → Finished input text at
+pub finish-line : (input old text : List ℕ) (at : ℕ) → until 10 input ≡ length input → at ≤ length old → Put old 0 (replyTo input) text at → Finished input text at
 unfolding outputFor
-finish-line input old text at room put =
+finish-line input old text at last room put =
     record {
       room = omega (arith, put-length put);
-      writes = λ last.
+      writes =
           ap (λ (l : List ℕ). repliesTo (cutAt 10 l)) (sym (append-nil input))
           ∙ ap repliesTo (pieces-on 10 input [] last)
           ∙ append-nil (replyTo (input ++ []))

@@ -2,17 +2,18 @@
 -- Assumes nothing.
 use mathlib.Core.Path.{_≡_}
 use mathlib.Core.Bool.{Bool, true, false}
-use mathlib.Core.List.{List, [], _∷_, _++_}
+use mathlib.Core.List.{List, [], _++_}
 use Prim.Native.Nat.{ℕ, _≤_, _<_}
 use lib.ListN.{length, take, drop}
+use Rattle.text.specs.Spelling.{spelt}
 use Rattle.fields.specs.Cuts.{cutAt, until}
 use Rattle.calls.specs.Lines.{replyTo}
 use Rattle.stream.specs.declared.Progress.{Progress}
 use Rattle.stream.specs.declared.Step.{Step}
+use Rattle.stream.specs.declared.Hand.{Hand}
 
 abbrev pub repliesTo : List (List ℕ) → List ℕ
-repliesTo [] = []
-repliesTo (l ∷ ls) = replyTo l ++ repliesTo ls
+repliesTo ls = spelt replyTo ls
 
 -- the lines end at line feeds (10). The last may lack its own; where it does not, nothing stands after it, and nothing is
 -- written for nothing
@@ -43,7 +44,7 @@ pub record Stepped (input : List ℕ) (skipping : Bool) (text : List ℕ) (r : S
   pub within : r .from ≤ length input
   pub room : r .at ≤ length text
   pub writes : (more : List ℕ) → outputIn skipping (input ++ more) ≡ take (r .at) text ++ outputIn (r .skipping) (drop (r .from) input ++ more)
-  pub moves : r .from ≡ 0 → (r .skipping ≡ skipping) × (length input ≤ 200000) × (until 10 input ≡ length input)
+  pub moves : r .from ≡ 0 → (r .at ≡ 0) × (r .skipping ≡ skipping) × (length input ≤ 200000) × (until 10 input ≡ length input)
 
 abbrev pub Skipped : List ℕ → Step → Type 0
 Skipped input r = (r .at ≡ 0) × ((text : List ℕ) → Stepped input true text r)
@@ -51,4 +52,15 @@ Skipped input r = (r .at ≡ 0) × ((text : List ℕ) → Stepped input true tex
 -- the input ends: a line without its line feed is answered all the same
 pub record Finished (input text : List ℕ) (at : ℕ) : Type 0 where
   pub room : at ≤ length text
-  pub writes : until 10 input ≡ length input → outputFor input ≡ take at text
+  pub writes : outputFor input ≡ take at text
+
+-- the promise of a turn. At hand are the first `size` bytes of the old buffer, and then those of the new one. Whatever is still to
+-- come, and nothing where the input has ended, what is put and what is written for the rest is all that is written. A turn that
+-- waits has room for more behind what is at hand; and where the input has ended, nothing is left to be written
+pub record Turned (old : List ℕ) (size : ℕ) (skipping ended : Bool) (new text : List ℕ) (r : Hand) : Type 0 where
+  pub within : r .size ≤ length new
+  pub room : r .at ≤ length text
+  pub writes : (more : List ℕ) → (ended ≡ true → more ≡ []) →
+      outputIn skipping (take size old ++ more) ≡ take (r .at) text ++ outputIn (r .skipping) (take (r .size) new ++ more)
+  pub space : r .waits ≡ true → r .size ≤ 200000
+  pub done : r .waits ≡ true → ended ≡ true → outputIn (r .skipping) (take (r .size) new) ≡ []

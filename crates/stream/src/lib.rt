@@ -1,16 +1,16 @@
 // An input of lines, of which some part is at hand: its full lines are answered, as long as there is room for the answers.
 mod rest;
 
-pub use rest::keep;
 ghost use mathlib.Core.Path.{_≡_};
 ghost use Prim.Native.Nat.{_+_, _-_, _≤_, min};
 ghost use lib.ListN.{length};
-ghost use Rattle.stream.specs.Input.{Replied, Skipped, Stepped, Finished, RoomForLines};
+ghost use Rattle.fields.specs.Cuts.{until};
+ghost use Rattle.stream.specs.Input.{Replied, Skipped, Stepped, Finished, RoomForLines, Turned};
+use calls::LINE_FEED;
 use calls::LONGEST;
 use calls::reply;
 use fields::cut::end_of;
-
-const LINE_FEED: u8 = 10;
+use rest::keep;
 
 // A line of more than the longest is cut to one more than that, which is too long all the same.
 const CUT: usize = 200001;
@@ -25,10 +25,18 @@ struct Progress {
 }
 
 // The same; and if `skipping`, what is left starts inside a line whose reply is already put.
-pub struct Step {
-    pub from: usize,
-    pub at: usize,
+struct Step {
+    from: usize,
+    at: usize,
+    skipping: bool,
+}
+
+// What is left is now at hand, the first `size` bytes of the buffer. If `waits`, there is nothing to do before more is read.
+pub struct Hand {
+    pub size: usize,
     pub skipping: bool,
+    pub at: usize,
+    pub waits: bool,
 }
 
 fn cut_end(from: usize, end: usize) -> usize
@@ -83,13 +91,7 @@ fn skip(input: &[u8]) -> Step
 
 // Goes on with an input of which this part is at hand, and puts what is to be written at the front of `text`. It passes over
 // nothing only where more input is needed: a line is not full yet, and not too long.
-pub fn advance(
-    input: &[u8],
-    skipping: bool,
-    bytes: &mut [u8],
-    out: &mut [u8],
-    text: &mut [u8],
-) -> Step
+fn advance(input: &[u8], skipping: bool, bytes: &mut [u8], out: &mut [u8], text: &mut [u8]) -> Step
     requires { ⌜ RoomForLines (now bytes) (now out) (now text) ⌝ }
     ensures { λ r. ⌜ Stepped (now (input .entry)) skipping (now (text .exit)) r ⌝ }
 {
@@ -120,10 +122,52 @@ pub fn advance(
 }
 
 // Puts what is written for the last line, where the input ends without a line feed.
-pub fn finish(input: &[u8], bytes: &mut [u8], out: &mut [u8], text: &mut [u8]) -> usize
+fn finish(input: &[u8], bytes: &mut [u8], out: &mut [u8], text: &mut [u8]) -> usize
     requires { ⌜ RoomForLines (now bytes) (now out) (now text) ⌝ }
-    requires { ⌜ length (now input) ≤ 200000 ⌝ }
+    requires { ⌜ (length (now input) ≤ 200000) × (until 10 (now input) ≡ length (now input)) ⌝ }
     ensures { λ r. ⌜ Finished (now (input .entry)) (now (text .exit)) r ⌝ }
 {
     reply(input, bytes, out, text, 0)
+}
+
+// One turn of a program: puts what is to be written at the front of `text`, and moves what is left of the first `size` bytes to the
+// front of `input`. Where the input has `ended`, no more is to come, and a line without its line feed is answered too.
+pub fn turn(
+    input: &mut [u8],
+    size: usize,
+    skipping: bool,
+    ended: bool,
+    bytes: &mut [u8],
+    out: &mut [u8],
+    text: &mut [u8],
+) -> Hand
+    requires { ⌜ RoomForLines (now bytes) (now out) (now text) ⌝ }
+    requires { ⌜ size ≤ length (now input) ⌝ }
+    ensures { λ r. ⌜ Turned (now (input .entry)) size skipping ended (now (input .exit)) (now (text .exit)) r ⌝ }
+{
+    let step = advance(&input[0..size], skipping, bytes, out, text);
+    if 0 < step.from {
+        return Hand {
+            size: keep(input, step.from, size),
+            skipping: step.skipping,
+            at: step.at,
+            waits: false,
+        };
+    }
+    if ended {
+        if !skipping {
+            return Hand {
+                size: 0,
+                skipping: false,
+                at: finish(&input[0..size], bytes, out, text),
+                waits: true,
+            };
+        }
+    }
+    Hand {
+        size,
+        skipping,
+        at: 0,
+        waits: true,
+    }
 }

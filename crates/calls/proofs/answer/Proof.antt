@@ -9,7 +9,8 @@ use lib.ListN.{length, drop}
 use lib.Seq.{length-take-le}
 use Rattle.lemmas.specs.Lists.{all}
 use Rattle.fields.specs.Fields.{fieldsOf, isField}
-use Rattle.calls.specs.Lines.{isKnown, arity, lineWord}
+use Rattle.calls.specs.Words.{isKnown, arity}
+use Rattle.calls.specs.Lines.{lineWord}
 use Rattle.fields.proofs.Splitting.{end-below}
 use Rattle.calls.proofs.Answering.{known-word, arity-most, line-word, answer-long, answer-word, answer-fields, answer-digits, answer-call, after-within, after-word, after-has}
 use borrow.Author.Needs.{needs}

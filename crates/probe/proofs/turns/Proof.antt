@@ -6,20 +6,20 @@ use Prim.Native.Nat.{_≤_}
 use native.Mathlib.Omega.{arith}
 use borrow.Author.Needs.{needs}
 use lib.ListN.{length}
-use Rattle.probe.proofs.Rooms.{room-kept}
+use Rattle.stream.proofs.Hands.{room-kept}
 use Rattle.probe.proofs.turns.Statement.{statement}
 use Rattle.probe.proofs.turns.Tie as tie
 
 abbrev Inv-loop : tie.InvT-loop
-Inv-loop input₀ bytes₀ out₀ text₀ hand₀ left₀ input bytes out text hand left =
+Inv-loop input₀ bytes₀ out₀ text₀ state₀ left₀ input bytes out text state left =
     (length input ≡ length input₀)
     × (length bytes ≡ length bytes₀)
     × (length out ≡ length out₀)
     × (length text ≡ length text₀)
-    × (hand .size ≤ length input)
+    × (state .size ≤ length input)
 
 abbrev μ-loop : tie.MeasureT-loop
-μ-loop input₀ bytes₀ out₀ text₀ hand₀ left₀ input bytes out text hand left = left
+μ-loop input₀ bytes₀ out₀ text₀ state₀ left₀ input bytes out text state left = left
 
 loop-holds : tie.Need-loop-holds Inv-loop μ-loop
 loop-holds c = (refl, refl, refl, refl, omega arith)

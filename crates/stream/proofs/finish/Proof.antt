@@ -21,7 +21,8 @@ same-length-3 c = search needs
 returns : tie.Need-returns
 returns c =
     let p = c .before .before .before .before .before .before .reply .ensures in
-    finish-line _ _ _ _ (omega (arith, p .short, c .before .before .before .before .before .before .before .before .before .before .before .before .before .before .pre .0 .answer)) (p .puts)
+    let start = c .before .before .before .before .before .before .before .before .before .before .before .before .before .before in
+    finish-line _ _ _ _ (start .pre .1 .1) (omega (arith, p .short, start .pre .0 .answer)) (p .puts)
 
 pub finish-spec : {M : Type 1} → statement M
 finish-spec = tie.close (tie.spec reply-requires same-length same-length-2 same-length-3 returns)
