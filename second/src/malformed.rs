@@ -16,15 +16,14 @@ pub fn malformed(rng: &mut Rng, good: &Call) -> (Vec<u8>, &'static str) {
     }
 }
 
+const WRONG_WORDS: [&str; 10] = ["fil", "fills", "Fill", "TEST", "shown", "quit", "error", "0", "-", "\u{e9}"];
+
 fn spoil(rng: &mut Rng, good: &Call) -> Vec<u8> {
     let mut line = good.line().into_bytes();
     let word = good.op.word().len();
     match rng.below(16) {
         // unknown words
-        0 => {
-            let words = ["fil", "fills", "Fill", "TEST", "shown", "quit", "error", "0", "-", "\u{e9}"];
-            line.splice(..word, rng.pick(&words).bytes());
-        }
+        0 => drop(line.splice(..word, rng.pick(&WRONG_WORDS).bytes())),
         1 => line[rng.below(word)] ^= rng.pick(&[1, 32, 128]),
         2 => return rng.pick(&[" ", ".", "fill", "next ", "show . .", "fill . . .", "\r", "\t", "\0"]).into(),
         // too few fields, too many
