@@ -4,7 +4,7 @@
 use mathlib.Core.Path.{_≡_, refl, sym, _∙_, ap}
 use mathlib.Core.Bool.{Bool, true, false, true≢false}
 use mathlib.Core.List.{List, [], _++_, append-nil}
-use Prim.Native.Nat.{ℕ, _-_, _≤_}
+use Prim.Native.Nat.{ℕ, _-_, _≤_, _<_}
 use native.Mathlib.Omega.{arith}
 use lib.ListN.{length, take, drop}
 use lib.Seq.{length-take-le}
@@ -26,10 +26,10 @@ module _ (old : List ℕ) (size : ℕ) (within : size ≤ length old) where
   lent = let all : size - 0 ≡ size = omega arith in ap (λ (k : ℕ). take k old) all
 
   module _ {text : List ℕ} {skipping : Bool} {s : Step} (stepped : Stepped (take (size - 0) old) skipping text s) where
-    pub hand-kept : (ended : Bool) (new : List ℕ) (rest : ℕ) → length new ≡ length old → rest ≡ size - s .from →
+    pub hand-kept : 0 < s .from → (ended : Bool) (new : List ℕ) (rest : ℕ) → length new ≡ length old → rest ≡ size - s .from →
         take (size - s .from) new ≡ take (size - s .from) (drop (s .from) old) →
         Turned old size skipping ended new text (record { size = rest; skipping = s .skipping; at = s .at; waits = false })
-    hand-kept ended new rest same e kept =
+    hand-kept some ended new rest same e kept =
         record {
           within = omega arith;
           room = stepped .room;
@@ -37,6 +37,8 @@ module _ (old : List ℕ) (size : ℕ) (within : size ≤ length old) where
               sym (ap (λ (l : List ℕ). outputIn skipping (l ++ more)) lent)
               ∙ stepped .writes more
               ∙ ap (λ (l : List ℕ). take (s .at) text ++ outputIn (s .skipping) (l ++ more)) moved;
+          goes = λ w. omega (arith, stepped .within, length-take-le (size - 0) old (omega arith));
+          begun = λ w. absurd (true≢false (sym w));
           space = λ w. absurd (true≢false (sym w));
           done = λ w. absurd (true≢false (sym w));
         }
@@ -64,6 +66,8 @@ module _ (old : List ℕ) (size : ℕ) (within : size ≤ length old) where
             within = within;
             room = omega arith;
             writes = λ more e. refl;
+            goes = λ w. absurd (true≢false w);
+            begun = λ w. rw (← lent) (stepped .moves none .3);
             space = λ w. short;
             done = λ w e. answered (pending e);
           }
@@ -82,6 +86,8 @@ module _ (old : List ℕ) (size : ℕ) (within : size ≤ length old) where
                 ∙ f .writes
                 ∙ sym (append-nil (take at put))
                 ∙ ap (λ (l : List ℕ). take at put ++ outputFor l) (sym (last e));
+            goes = λ w. absurd (true≢false w);
+            begun = λ w. refl;
             space = λ w. omega arith;
             done = λ w d. refl;
           }

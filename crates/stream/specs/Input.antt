@@ -55,12 +55,15 @@ pub record Finished (input text : List ℕ) (at : ℕ) : Type 0 where
   pub writes : outputFor input ≡ take at text
 
 -- the promise of a turn. At hand are the first `size` bytes of the old buffer, and then those of the new one. Whatever is still to
--- come, and nothing where the input has ended, what is put and what is written for the rest is all that is written. A turn that
--- waits has room for more behind what is at hand; and where the input has ended, nothing is left to be written
+-- come, and nothing where the input has ended, what is put and what is written for the rest is all that is written. A turn gives
+-- something up, or waits; then no full line is at hand, there is room for more, and where the input has ended, nothing is left
+-- to be written
 pub record Turned (old : List ℕ) (size : ℕ) (skipping ended : Bool) (new text : List ℕ) (r : Hand) : Type 0 where
   pub within : r .size ≤ length new
   pub room : r .at ≤ length text
   pub writes : (more : List ℕ) → (ended ≡ true → more ≡ []) →
       outputIn skipping (take size old ++ more) ≡ take (r .at) text ++ outputIn (r .skipping) (take (r .size) new ++ more)
+  pub goes : r .waits ≡ false → r .size < size
+  pub begun : r .waits ≡ true → until 10 (take (r .size) new) ≡ length (take (r .size) new)
   pub space : r .waits ≡ true → r .size ≤ 200000
   pub done : r .waits ≡ true → ended ≡ true → outputIn (r .skipping) (take (r .size) new) ≡ []

@@ -40,7 +40,7 @@ returns : tie.Need-returns
 returns c =
     let start = c .before .before .before .before .before .before .before .before .before .before .before .before .before .before .before .before .before .before .before .before .before .before in
     let keep = c .before .before .keep in
-    hand-kept (start .args .input .now) (start .args .size) (start .pre .1) (c .before .before .before .before .before .before .before .before .before .before .before .before .advance .ensures) (start .args .ended) _ _ (keep .kept .0) (keep .ensures .0) (keep .ensures .1)
+    hand-kept (start .args .input .now) (start .args .size) (start .pre .1) (c .before .before .before .before .before .before .before .before .before .before .before .before .advance .ensures) (c .before .before .before .before .if1 .taken) (start .args .ended) _ _ (keep .kept .0) (keep .ensures .0) (keep .ensures .1)
 
 sub-finish : tie.Need-sub-finish
 sub-finish c = search needs
