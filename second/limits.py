@@ -1,30 +1,34 @@
 #!/usr/bin/env python3
-"""What the program `limits` has to print, worked out by desk.py. Every line is a case's name and its answer."""
+"""Calls of Fill, Test and Show at the limits, and what the probe has to answer to them, worked out by desk.py.
+
+`limits.py calls` prints the calls, each below a line that names it; `limits.py answers` prints a line for each call.
+"""
 import sys
 from itertools import product
 
 sys.dont_write_bytecode = True
 from desk import AND, EQU, IN, NOT, OPEN, OR, OUT, Refused, broken, check_bytes, check_tables, fill, record  # noqa: E402
 
-
-def of_states(buffer):
-    if len(buffer) <= 16:
-        return "".join(map(str, buffer))
-    counts = [buffer.count(state) for state in (OUT, IN, OPEN, 9)]
-    return "{} out {} in {} open {} as it was".format(*counts)
+# each: the case's name, the call's line, the answer's
+cases = []
 
 
-def fill_line(name, maker, depot, sheet, size=None, shown=False):
-    size = len(sheet) if size is None else size
+def line(word, *fields):
+    return " ".join([word, *(bytes(field).hex() or "." for field in fields)])
+
+
+def fill_line(name, maker, depot, sheet, size=None):
+    out = [9] * (len(sheet) if size is None else size)
     try:
-        count, left = fill(maker, depot, sheet, size)
+        count, left = fill(maker, depot, sheet, len(out))
         answer = f"filled {count}"
     except Refused as why:
-        answer, left = "refused {} {}".format(*why.args), [9] * size  # a refusal writes nothing
-    print(f"{name}: {answer}" + (f", buffer {of_states(left)}" if shown else ""))
+        answer, left = "refused {} {}".format(*why.args), out  # a refusal writes nothing
+    cases.append((name, line("fill", maker, depot, sheet, out), line(answer, left)))
 
 
 def test_line(name, maker, depot, listed):
+    """Test, and what Show gives beside it."""
     part = b""
     try:
         rows = check_tables(maker, depot, len(listed))
@@ -35,7 +39,8 @@ def test_line(name, maker, depot, listed):
             part = (maker + depot)[8 * numbers[0]:8 * numbers[0] + 8]
     except Refused as why:
         answer = "refused {} {}".format(*why.args)
-    print(f"{name}: {answer}, shown {' '.join(map(str, part)) or 'nothing'}")
+    cases.append((name, line("test", maker, depot, listed), answer))
+    cases.append((name, line("show", maker, depot, listed), line("part", part)))
 
 
 def form():
@@ -86,13 +91,13 @@ def small():
     fill_line("both", b"", b"", [2, 0, 3], size=2)
     # table A, byte by byte as the specification prints it
     maker, depot = bytes.fromhex("0300000001000200"), bytes.fromhex("010000000200FFFF")
-    fill_line("A 122, the maker's alone", maker, b"", [1, 2, 2], shown=True)
-    fill_line("A 122, the depot's alone", b"", depot, [1, 2, 2], shown=True)
+    fill_line("A 122, the maker's alone", maker, b"", [1, 2, 2])
+    fill_line("A 122, the depot's alone", b"", depot, [1, 2, 2])
     for number, sheet in enumerate(([1, 2, 2], [2, 0, 2], [2, 2, 2], [1, 0, 2]), start=1):
-        fill_line(f"P{number}, A {''.join(map(str, sheet))}", maker, depot, sheet, shown=True)
+        fill_line(f"P{number}, A {''.join(map(str, sheet))}", maker, depot, sheet)
     contrary = record(EQU, 0, 1) + record(NOT, 0, 1)
-    fill_line("P10", contrary, b"", [2, 2], shown=True)
-    fill_line("P10 with box 0 in", contrary, b"", [1, 2], shown=True)
+    fill_line("P10", contrary, b"", [2, 2])
+    fill_line("P10 with box 0 in", contrary, b"", [1, 2])
     for listed in [*product((OUT, IN), repeat=3), (1, 2, 0)]:
         test_line(f"Test A {''.join(map(str, listed))}", maker, depot, listed)
     for n in (256, 257):
@@ -119,7 +124,7 @@ def chains():
         ("255 NOT, box 0 in", NOT, 255, 0, IN),
     ):
         table = chain(kind, 255)
-        fill_line(name, table[:8 * makers], table[8 * makers:], settled(256, box, state), shown=True)
+        fill_line(name, table[:8 * makers], table[8 * makers:], settled(256, box, state))
     for last, words, state in (
         (7, "box 0 in", IN),
         (7, "none settled", OPEN),
@@ -127,10 +132,18 @@ def chains():
         (255, "none settled", OPEN),
     ):
         table = chain(EQU, last) + record(NOT, 0, last)
-        fill_line(f"{last} EQU and a NOT of the ends, {words}", table, b"", settled(last + 1, 0, state), shown=True)
+        fill_line(f"{last} EQU and a NOT of the ends, {words}", table, b"", settled(last + 1, 0, state))
 
 
 if __name__ == "__main__":
     form()
     small()
     chains()
+    if sys.argv[1:] == ["calls"]:
+        for name, call, _ in cases:
+            print(f"# {name}\n{call}")
+    elif sys.argv[1:] == ["answers"]:
+        for _, _, answer in cases:
+            print(answer)
+    else:
+        sys.exit("limits.py calls, or limits.py answers")

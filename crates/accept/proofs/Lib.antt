@@ -1,3 +1,1 @@
-pub mod NoKind
-pub mod Tables
 pub mod Refused

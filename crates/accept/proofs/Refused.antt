@@ -7,8 +7,8 @@ use native.Mathlib.Omega.{arith}
 use lib.ListN.{getD}
 use Rattle.spec.specs.Refusals.{Said, refused, passed, fits, broken, filled, list, Check, judge}
 use Rattle.spec.proofs.Judge.{judge-append, judge-passed, judge-refused}
-use Rattle.accept.specs.declared.form.Refusal.{Refusal}
-use Rattle.accept.specs.declared.form.Refusal.the-variants.{Boxes, MakerLength, DepotLength, RecordCount, BadRecord, SheetByte, GivenLength, OutLength, ListByte}
+use Rattle.accept.specs.declared.Refusal.{Refusal}
+use Rattle.accept.specs.declared.Refusal.the-variants.{Boxes, MakerLength, DepotLength, RecordCount, BadRecord, SheetByte, GivenLength, OutLength, ListByte}
 use Rattle.accept.specs.Form.{refusalSays}
 
 -- every refusal of form has a number, which is below 7, and a place

@@ -1,10 +1,10 @@
 -- The paper's number and place for every case of a refusal of form.
 -- Assumes nothing.
 use Rattle.spec.specs.Refusals.{Said, refused, passed}
-use Rattle.accept.specs.declared.form.Refusal.{Refusal}
-use Rattle.accept.specs.declared.form.Refusal.the-variants.{Boxes, MakerLength, DepotLength, RecordCount, BadRecord, SheetByte, GivenLength, OutLength, ListByte}
-use Rattle.accept.specs.declared.form.Form.{Form}
-use Rattle.accept.specs.declared.form.Form.the-variants.{Passed, Refused}
+use Rattle.accept.specs.declared.Refusal.{Refusal}
+use Rattle.accept.specs.declared.Refusal.the-variants.{Boxes, MakerLength, DepotLength, RecordCount, BadRecord, SheetByte, GivenLength, OutLength, ListByte}
+use Rattle.accept.specs.declared.Form.{Form}
+use Rattle.accept.specs.declared.Form.the-variants.{Passed, Refused}
 
 abbrev pub refusalSays : Refusal → Said
 refusalSays Boxes = refused 1 0

@@ -1,50 +1,12 @@
--- What is answered to a call: what the operation says, in words, and the bytes that the lent buffer then holds.
+-- What is answered to a call, by its word and the fields after it.
 -- Assumes nothing.
-use mathlib.Core.List.{List, [], _++_}
+use mathlib.Core.List.{List, []}
 use Prim.Native.Nat.{ℕ}
-use Rattle.spec.specs.Refusals.{Said, refused, passed, fits, broken, filled, list}
-use Rattle.spec.specs.Fits.{testSays, showsPart, bytesOf}
-use Rattle.spec.specs.Fill.{fillSays, fillWrites}
-use Rattle.spec.specs.Kits.{firstSays, firstWrites, nextSays, nextWrites}
-use Rattle.text.specs.Spelling.{ascii, field, hexOf}
 use Rattle.fields.specs.Fields.{part}
-use Rattle.calls.specs.declared.word.Word.{Word}
-use Rattle.calls.specs.declared.word.Word.the-variants.{Fill, Test, Show, First, Next, Unknown}
+use Rattle.answers.specs.Answers.{fillAnswer, testAnswer, showAnswer, firstAnswer, nextAnswer}
+use Rattle.fields.specs.declared.word.Word.{Word}
+use Rattle.fields.specs.declared.word.Word.the-variants.{Fill, Test, Show, First, Next, Unknown}
 
--- what an operation says, in words; `passed` is said by checks alone, and never answered
-abbrev pub wordsOf : Said → List ℕ
-wordsOf (refused number place) = field "refused " number ++ field " " place
-wordsOf passed = []
-wordsOf fits = ascii "fits"
-wordsOf (broken number) = field "broken " number
-wordsOf (filled boxes) = field "filled " boxes
-wordsOf list = ascii "list"
-
--- a space, and the bytes of a buffer
-abbrev pub spaced : List ℕ → List ℕ
-spaced out = ascii " " ++ hexOf out
-
-abbrev pub errorFor : (reason : List ℕ) → List ℕ
-errorFor reason = ascii "error " ++ reason
-
--- the answer of each operation, by its parts
-abbrev pub fillAnswer : (maker depot sheet out : List ℕ) → List ℕ
-fillAnswer maker depot sheet out = wordsOf (fillSays maker depot sheet out) ++ spaced (fillWrites maker depot sheet out)
-
-abbrev pub testAnswer : (maker depot l : List ℕ) → List ℕ
-testAnswer maker depot l = wordsOf (testSays maker depot l)
-
-abbrev pub showAnswer : (maker depot l : List ℕ) → List ℕ
-showAnswer maker depot l = ascii "part " ++ hexOf (bytesOf maker depot (showsPart maker depot l))
-
-abbrev pub firstAnswer : (maker depot sheet out : List ℕ) → List ℕ
-firstAnswer maker depot sheet out = wordsOf (firstSays maker depot sheet out) ++ spaced (firstWrites maker depot sheet out)
-
-abbrev pub nextAnswer : (maker depot sheet given out : List ℕ) → List ℕ
-nextAnswer maker depot sheet given out =
-    wordsOf (nextSays maker depot sheet given out) ++ spaced (nextWrites maker depot sheet given out)
-
--- the answer to a call with these fields after its word
 abbrev pub answerTo : Word → List (List ℕ) → List ℕ
 answerTo Fill fs = fillAnswer (part fs 0) (part fs 1) (part fs 2) (part fs 3)
 answerTo Test fs = testAnswer (part fs 0) (part fs 1) (part fs 2)

@@ -1,4 +1,2 @@
-pub mod Words
 pub mod Answers
 pub mod Room
-pub mod Lines

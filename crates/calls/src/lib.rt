@@ -1,66 +1,114 @@
-// A call as a line of text, and its answer as another.
-mod call;
-mod operation;
-mod say;
-mod word;
-
-ghost use Prim.Native.Nat.{_+_};
-ghost use lib.ListN.{length};
+// A call whose fields are all right, and as many as it wants: decoded, done and answered.
+ghost use Prim.Native.Nat.{_+_, _≤_};
+ghost use lib.ListN.{length, drop};
+ghost use Rattle.fields.specs.Fields.{fieldsOf};
 ghost use Rattle.text.specs.Putting.{PutWithin};
+ghost use Rattle.calls.specs.Answers.{answerTo};
+ghost use Rattle.fields.specs.Words.{arity};
+ghost use Rattle.fields.specs.Parts.{HasFields};
 ghost use Rattle.calls.specs.Room.{Room};
-ghost use Rattle.calls.specs.Lines.{answerOf, replyTo};
-use call::call;
-use fields::cut::count_pieces;
-use fields::cut::end_of;
-use fields::field::SPACE;
-use fields::field::are_fields;
-use say::put_error;
-use text::put_byte;
-use word::Word;
-use word::arity_of;
-use word::word_of;
+use answers::operation::answer_fill;
+use answers::operation::answer_first;
+use answers::operation::answer_next;
+use answers::operation::answer_show;
+use answers::operation::answer_test;
+use fields::parts::next_part;
+use fields::parts::take_parts;
+use fields::word::Word;
 
-// Longer lines are not taken.
-pub const LONGEST: usize = 200000;
-
-const HASH: u8 = 35;
-
-pub const LINE_FEED: u8 = 10;
-
-// The answer to a line that is neither empty nor begins with #.
-fn answer(line: &[u8], bytes: &mut [u8], out: &mut [u8], text: &mut [u8], at: usize) -> usize
-    requires { ⌜ Room (now line) (now bytes) (now out) (now text) at ⌝ }
-    ensures { λ r. ⌜ PutWithin (52 + length (now (line .entry))) (now (text .entry)) at (answerOf (now (line .entry))) (now (text .exit)) r ⌝ }
+fn call_test(line: &[u8], from: usize, bytes: &mut [u8], text: &mut [u8], at: usize) -> usize
+    requires { ⌜ HasFields (now line) from 3 ⌝ }
+    requires { ⌜ (length (now line) ≤ length (now bytes)) × (at + 50 ≤ length (now text)) ⌝ }
+    ensures { λ r. ⌜ PutWithin (52 + length (now (line .entry))) (now (text .entry)) at (answerTo Word.Test (fieldsOf (drop from (now (line .entry))))) (now (text .exit)) r ⌝ }
 {
-    if LONGEST < line.len() {
-        return put_error(text, at, b"long");
-    }
-    let end = end_of(line, 0, SPACE);
-    let word = word_of(&line[..end]);
-    if let Word::Unknown = word {
-        return put_error(text, at, b"word");
-    }
-    if count_pieces(line, SPACE) != arity_of(word) + 1 {
-        return put_error(text, at, b"fields");
-    }
-    let from = end + 1;
-    if !are_fields(line, from) {
-        return put_error(text, at, b"digits");
-    }
-    call(word, line, from, bytes, out, text, at)
+    let p = take_parts(line, from, bytes);
+    answer_test(&bytes[..], p, text, at)
 }
 
-// Puts what is written for a line at `at`: nothing, or its answer and a line feed. `bytes` and `out` are for its fields.
-pub fn reply(line: &[u8], bytes: &mut [u8], out: &mut [u8], text: &mut [u8], at: usize) -> usize
-    requires { ⌜ Room (now line) (now bytes) (now out) (now text) at ⌝ }
-    ensures { λ r. ⌜ PutWithin (53 + length (now (line .entry))) (now (text .entry)) at (replyTo (now (line .entry))) (now (text .exit)) r ⌝ }
+fn call_show(line: &[u8], from: usize, bytes: &mut [u8], text: &mut [u8], at: usize) -> usize
+    requires { ⌜ HasFields (now line) from 3 ⌝ }
+    requires { ⌜ (length (now line) ≤ length (now bytes)) × (at + 50 ≤ length (now text)) ⌝ }
+    ensures { λ r. ⌜ PutWithin (52 + length (now (line .entry))) (now (text .entry)) at (answerTo Word.Show (fieldsOf (drop from (now (line .entry))))) (now (text .exit)) r ⌝ }
 {
-    if line.len() == 0 {
-        return at;
+    let p = take_parts(line, from, bytes);
+    answer_show(&bytes[..], p, text, at)
+}
+
+fn call_fill(
+    line: &[u8],
+    from: usize,
+    bytes: &mut [u8],
+    out: &mut [u8],
+    text: &mut [u8],
+    at: usize,
+) -> usize
+    requires { ⌜ HasFields (now line) from 4 ⌝ }
+    requires { ⌜ Room (now line) (now bytes) (now out) (now text) at ⌝ }
+    ensures { λ r. ⌜ PutWithin (52 + length (now (line .entry))) (now (text .entry)) at (answerTo Word.Fill (fieldsOf (drop from (now (line .entry))))) (now (text .exit)) r ⌝ }
+{
+    let p = take_parts(line, from, bytes);
+    let o = next_part(line, p.from, out, 0);
+    let n = o.at;
+    answer_fill(&bytes[..], p, &mut out[..n], text, at)
+}
+
+fn call_first(
+    line: &[u8],
+    from: usize,
+    bytes: &mut [u8],
+    out: &mut [u8],
+    text: &mut [u8],
+    at: usize,
+) -> usize
+    requires { ⌜ HasFields (now line) from 4 ⌝ }
+    requires { ⌜ Room (now line) (now bytes) (now out) (now text) at ⌝ }
+    ensures { λ r. ⌜ PutWithin (52 + length (now (line .entry))) (now (text .entry)) at (answerTo Word.First (fieldsOf (drop from (now (line .entry))))) (now (text .exit)) r ⌝ }
+{
+    let p = take_parts(line, from, bytes);
+    let o = next_part(line, p.from, out, 0);
+    let n = o.at;
+    answer_first(&bytes[..], p, &mut out[..n], text, at)
+}
+
+fn call_next(
+    line: &[u8],
+    from: usize,
+    bytes: &mut [u8],
+    out: &mut [u8],
+    text: &mut [u8],
+    at: usize,
+) -> usize
+    requires { ⌜ HasFields (now line) from 5 ⌝ }
+    requires { ⌜ Room (now line) (now bytes) (now out) (now text) at ⌝ }
+    ensures { λ r. ⌜ PutWithin (52 + length (now (line .entry))) (now (text .entry)) at (answerTo Word.Next (fieldsOf (drop from (now (line .entry))))) (now (text .exit)) r ⌝ }
+{
+    let p = take_parts(line, from, bytes);
+    let g = next_part(line, p.from, bytes, p.third);
+    let o = next_part(line, g.from, out, 0);
+    let n = o.at;
+    answer_next(&bytes[..], p, g.at, &mut out[..n], text, at)
+}
+
+// An unknown word has no answer here.
+pub fn call(
+    word: Word,
+    line: &[u8],
+    from: usize,
+    bytes: &mut [u8],
+    out: &mut [u8],
+    text: &mut [u8],
+    at: usize,
+) -> usize
+    requires { ⌜ HasFields (now line) from (arity word) ⌝ }
+    requires { ⌜ Room (now line) (now bytes) (now out) (now text) at ⌝ }
+    ensures { λ r. ⌜ PutWithin (52 + length (now (line .entry))) (now (text .entry)) at (answerTo word (fieldsOf (drop from (now (line .entry))))) (now (text .exit)) r ⌝ }
+{
+    match word {
+        Word::Fill => call_fill(line, from, bytes, out, text, at),
+        Word::Test => call_test(line, from, bytes, text, at),
+        Word::Show => call_show(line, from, bytes, text, at),
+        Word::First => call_first(line, from, bytes, out, text, at),
+        Word::Next => call_next(line, from, bytes, out, text, at),
+        Word::Unknown => at,
     }
-    if line[0] == HASH {
-        return at;
-    }
-    let next = answer(line, bytes, out, text, at);
-    put_byte(text, next, LINE_FEED)
 }

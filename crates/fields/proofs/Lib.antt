@@ -5,3 +5,4 @@ pub mod Decoding
 pub mod Pieces
 pub mod Taking
 pub mod Held
+pub mod Texts

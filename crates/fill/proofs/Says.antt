@@ -10,12 +10,12 @@ use Rattle.spec.specs.Records.{recordCount, rulesIn}
 use Rattle.spec.proofs.Closed.{closed-length}
 use Rattle.spec.specs.Fits.{firstBroken}
 use Rattle.spec.specs.Fill.{closureOf, openCount, boxesFilled}
-use Rattle.accept.specs.declared.form.Refusal.{Refusal}
+use Rattle.accept.specs.declared.Refusal.{Refusal}
 use Rattle.accept.specs.Form.{refusalSays}
 use Rattle.accept.proofs.Refused.{numbered}
 use Rattle.theory.proofs.Filling.{Fills, fill-refused, fill-broken, fill-filled}
-use Rattle.fill.specs.declared.operation.Filled.{Filled}
-use Rattle.fill.specs.declared.operation.Filled.the-variants.{Boxes, Broken, Refused}
+use Rattle.fill.specs.declared.Filled.{Filled}
+use Rattle.fill.specs.declared.Filled.the-variants.{Boxes, Broken, Refused}
 use Rattle.fill.specs.Answer.{filledSays, FillDoes, FormPassed, FillsTo}
 
 -- a law of Fill's equations, as the promise has it

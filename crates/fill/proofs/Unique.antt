@@ -9,8 +9,8 @@ use borrow.Author.Tests.{ne-eqb}
 use lib.Dec.{eqb}
 use Rattle.spec.specs.Refusals.{Said, refused, passed, fits, broken, filled, list}
 use Rattle.accept.proofs.Refused.{numbered, refusalFor, refusal-back}
-use Rattle.fill.specs.declared.operation.Filled.{Filled}
-use Rattle.fill.specs.declared.operation.Filled.the-variants.{Boxes, Clash, Broken, Refused}
+use Rattle.fill.specs.declared.Filled.{Filled}
+use Rattle.fill.specs.declared.Filled.the-variants.{Boxes, Clash, Broken, Refused}
 use Rattle.fill.specs.Answer.{filledSays, FillDoes}
 
 -- the answer that says this

@@ -9,8 +9,8 @@ use Rattle.spec.specs.Facts as facts
 use Rattle.spec.specs.Refusals.{Said, refused, passed, filled, judge, orderChecks}
 use Rattle.spec.specs.Fill.{closureOf, fillSays, fillWrites}
 use Rattle.accept.specs.Form.{refusalSays}
-use Rattle.fill.specs.declared.operation.Filled.{Filled}
-use Rattle.fill.specs.declared.operation.Filled.the-variants.{Boxes, Clash, Broken, Refused}
+use Rattle.fill.specs.declared.Filled.{Filled}
+use Rattle.fill.specs.declared.Filled.the-variants.{Boxes, Clash, Broken, Refused}
 
 abbrev pub filledSays : Filled → Said
 filledSays (Boxes count) = filled count

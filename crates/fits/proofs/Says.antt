@@ -11,7 +11,7 @@ use Rattle.spec.specs.Refusals.{fits, broken, passed, judge}
 use Rattle.spec.specs.Fits.{firstBroken, testChecks, testSays, Part, partFor, showsPart}
 use Rattle.spec.proofs.Judge.{judge-passed}
 use Rattle.accept.specs.Form.{refusalSays}
-use Rattle.accept.specs.declared.form.Refusal.{Refusal}
+use Rattle.accept.specs.declared.Refusal.{Refusal}
 use Rattle.accept.proofs.Refused.{numbered, refusal-said}
 use Rattle.fits.specs.Answer.{judged, Shows}
 

@@ -8,7 +8,7 @@ use native.Mathlib.Omega.{arith}
 use denote.Ref.{RefT, now, ptr}
 use Rattle.spec.specs.Refusals.{Said, refused, fits, broken}
 use Rattle.spec.specs.Fits.{Part}
-use Rattle.accept.specs.declared.form.Refusal.{Refusal}
+use Rattle.accept.specs.declared.Refusal.{Refusal}
 use Rattle.accept.specs.Form.{refusalSays}
 use Rattle.accept.proofs.Refused.{numbered, refusal-unique}
 use Rattle.fits.specs.declared.Tested.{Tested}

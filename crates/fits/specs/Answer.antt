@@ -1,33 +1,21 @@
 -- The paper's number and values for every case of Test's answer; and what it is to show a part of one of two lent tables.
 -- Assumes nothing.
 use mathlib.Core.Path.{_≡_}
-use mathlib.Core.Bool.{Bool, cond}
+use mathlib.Core.Bool.{cond}
 use mathlib.Core.List.{List}
 use Prim.Native.Nat.{ℕ, _+_}
 use denote.Ref.{RefT, now, ptr}
-use Rattle.spec.specs.Kinds.{Place, X, Y, Z}
 use Rattle.spec.specs.Refusals.{Said, fits, broken}
 use Rattle.spec.specs.Records.{recordCount}
 use Rattle.spec.specs.Fits.{firstBroken, tested, Part, bytesOf}
 use Rattle.accept.specs.Form.{refusalSays}
-use Rattle.accept.specs.Record.{WholeRecords}
 use Rattle.fits.specs.declared.Tested.{Tested}
 use Rattle.fits.specs.declared.Tested.the-variants.{Fits, Broken, Refused}
-
-abbrev pub atPlaces : Bool → Bool → Bool → Place → Bool
-atPlaces x y z X = x
-atPlaces x y z Y = y
-atPlaces x y z Z = z
 
 abbrev pub testedSays : Tested → Said
 testedSays Fits = fits
 testedSays (Broken number) = broken number
 testedSays (Refused why) = refusalSays why
-
--- both tables hold whole records, and this is how many
-pub record Counted (maker depot : List ℕ) (count : ℕ) : Type 0 where
-  pub whole : WholeRecords maker depot
-  pub counted : count ≡ recordCount maker depot
 
 -- what Test says of accepted tables and a full list
 abbrev pub judged : (maker depot l : List ℕ) → Said

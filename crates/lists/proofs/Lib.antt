@@ -1,4 +1,3 @@
-pub mod Turn
 pub mod Calls
 pub mod Nine
 pub mod Unique

@@ -9,8 +9,8 @@ use borrow.Author.Tests.{ne-eqb}
 use lib.Dec.{eqb}
 use Rattle.spec.specs.Refusals.{Said, refused, passed, fits, broken, filled, list}
 use Rattle.accept.proofs.Refused.{numbered, refusalFor, refusal-back}
-use Rattle.lists.specs.declared.operation.Listed.{Listed}
-use Rattle.lists.specs.declared.operation.Listed.the-variants as listed
+use Rattle.lists.specs.declared.Listed.{Listed}
+use Rattle.lists.specs.declared.Listed.the-variants as listed
 use Rattle.lists.specs.Answer.{listedSays, FirstDoes, NextDoes}
 
 -- the answer that says this

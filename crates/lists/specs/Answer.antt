@@ -11,8 +11,8 @@ use Rattle.spec.specs.Kits.{firstSays, firstWrites, nextSays, nextWrites}
 use Rattle.kits.specs.Order.{AnswerTo}
 use Rattle.kits.specs.Kit.{Wanted}
 use Rattle.accept.specs.Form.{refusalSays}
-use Rattle.lists.specs.declared.operation.Listed.{Listed}
-use Rattle.lists.specs.declared.operation.Listed.the-variants as listed
+use Rattle.lists.specs.declared.Listed.{Listed}
+use Rattle.lists.specs.declared.Listed.the-variants as listed
 
 abbrev pub listedSays : Listed → Said
 listedSays listed.List = list

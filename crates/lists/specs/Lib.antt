@@ -1,3 +1,1 @@
-pub mod Look
-pub mod Ready
 pub mod Answer

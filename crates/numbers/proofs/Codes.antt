@@ -4,16 +4,16 @@ use mathlib.Core.Path.{_≡_, refl, _∙_, ap}
 use mathlib.Core.List.{[], _∷_}
 use Rattle.spec.specs.Refusals.{Said, refused, passed, fits, broken, filled, list}
 use Rattle.accept.proofs.Refused.{numbered}
-use Rattle.accept.specs.declared.form.Refusal.{Refusal}
+use Rattle.accept.specs.declared.Refusal.{Refusal}
 use Rattle.accept.specs.Form.{refusalSays}
 use Rattle.fits.specs.declared.Tested.{Tested}
 use Rattle.fits.specs.declared.Tested.the-variants as tested
 use Rattle.fits.specs.Answer.{testedSays}
-use Rattle.fill.specs.declared.operation.Filled.{Filled}
-use Rattle.fill.specs.declared.operation.Filled.the-variants as filling
+use Rattle.fill.specs.declared.Filled.{Filled}
+use Rattle.fill.specs.declared.Filled.the-variants as filling
 use Rattle.fill.specs.Answer.{filledSays}
-use Rattle.lists.specs.declared.operation.Listed.{Listed}
-use Rattle.lists.specs.declared.operation.Listed.the-variants as listed
+use Rattle.lists.specs.declared.Listed.{Listed}
+use Rattle.lists.specs.declared.Listed.the-variants as listed
 use Rattle.lists.specs.Answer.{listedSays}
 use Rattle.numbers.specs.declared.Numbers.{Numbers}
 use Rattle.numbers.specs.Numbering.{threeOf, inOrder}

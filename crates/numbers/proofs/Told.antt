@@ -7,17 +7,17 @@ use Prim.Native.Nat.{ℕ}
 use lib.Dec.{eqb}
 use lib.ListN.{getD}
 use Rattle.spec.specs.Refusals.{Said, refused, fits, broken, filled, list}
-use Rattle.accept.specs.declared.form.Refusal.{Refusal}
+use Rattle.accept.specs.declared.Refusal.{Refusal}
 use Rattle.accept.specs.Form.{refusalSays}
 use Rattle.accept.proofs.Refused.{numbered}
 use Rattle.fits.specs.declared.Tested.{Tested}
 use Rattle.fits.specs.declared.Tested.the-variants.{Fits, Broken as BrokenTested, Refused as RefusedTested}
 use Rattle.fits.specs.Answer.{testedSays}
-use Rattle.fill.specs.declared.operation.Filled.{Filled}
-use Rattle.fill.specs.declared.operation.Filled.the-variants.{Boxes, Clash, Broken as BrokenFilled, Refused as RefusedFilled}
+use Rattle.fill.specs.declared.Filled.{Filled}
+use Rattle.fill.specs.declared.Filled.the-variants.{Boxes, Clash, Broken as BrokenFilled, Refused as RefusedFilled}
 use Rattle.fill.specs.Answer.{filledSays}
-use Rattle.lists.specs.declared.operation.Listed.{Listed}
-use Rattle.lists.specs.declared.operation.Listed.the-variants.{List as ListListed, None, Refused as RefusedListed}
+use Rattle.lists.specs.declared.Listed.{Listed}
+use Rattle.lists.specs.declared.Listed.the-variants.{List as ListListed, None, Refused as RefusedListed}
 use Rattle.lists.specs.Answer.{listedSays}
 use Rattle.numbers.specs.declared.Numbers.{Numbers}
 use Rattle.numbers.specs.Numbering.{threeOf, inOrder}

@@ -8,10 +8,10 @@ ghost use Rattle.fits.specs.Answer.{testedSays};
 ghost use Rattle.fill.specs.Answer.{filledSays};
 ghost use Rattle.lists.specs.Answer.{listedSays};
 ghost use Rattle.numbers.specs.Numbering.{threeOf, inOrder};
-use desk::Filled;
-use desk::Listed;
-use desk::Refusal;
-use desk::Tested;
+use accept::Refusal;
+use fill::Filled;
+use fits::Tested;
+use lists::Listed;
 
 pub const DONE: u64 = 0;
 

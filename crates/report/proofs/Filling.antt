@@ -12,7 +12,7 @@ use Rattle.spec.specs.Refusals.{Said, refused, passed, filled, judge, boxesChec
 use Rattle.spec.specs.Fill.{openCount, closureOf, written, fillSays, fillWrites}
 use Rattle.spec.specs.Kits.{kits}
 use Rattle.spec.proofs.Judge.{judge-append, judge-passes, judge-reached, refused-passed}
-use Rattle.fill.specs.declared.operation.Filled.{Filled}
+use Rattle.fill.specs.declared.Filled.{Filled}
 use Rattle.fill.specs.Answer.{filledSays, FillDoes}
 use Rattle.report.specs.Listing.{refusedLine, headerLine, kitLines, listingBy, listingOf}
 use Rattle.report.specs.Turns.{RoomForSheet}

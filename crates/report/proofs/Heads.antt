@@ -10,7 +10,7 @@ use Rattle.spec.specs.Kits.{kits, kitsAfter, firstSays, firstWrites, nextSays, 
 use Rattle.kits.specs.Kit.{IsFull}
 use Rattle.kits.proofs.Form.{first-passes, next-passes}
 use Rattle.kits.proofs.Says.{first-head, first-empty, next-head, next-empty}
-use Rattle.lists.specs.declared.operation.Listed.{Listed}
+use Rattle.lists.specs.declared.Listed.{Listed}
 use Rattle.lists.specs.Answer.{listedSays, FirstDoes, NextDoes}
 use Rattle.report.specs.Turns.{saysList, Listable, AtHead}
 

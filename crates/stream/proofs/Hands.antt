@@ -11,7 +11,7 @@ use lib.Seq.{length-take-le}
 use Rattle.lemmas.proofs.Slices.{drop-take}
 use Rattle.fields.specs.Cuts.{cutAt}
 use Rattle.fields.proofs.Splitting.{pieces-on}
-use Rattle.calls.specs.Lines.{replyTo}
+use Rattle.lines.specs.Lines.{replyTo}
 use Rattle.stream.specs.Input.{repliesTo, outputFor, outputIn, RoomForLines, Stepped, Finished, Turned}
 use Rattle.stream.specs.declared.Step.{Step}
 

@@ -11,7 +11,7 @@ use lib.Seq.{drop-length, take-append-le}
 use Rattle.text.specs.Putting.{Put, PutWithin}
 use Rattle.text.proofs.Puts.{put-length, put-front}
 use Rattle.fields.specs.Cuts.{cutAt, until}
-use Rattle.calls.specs.Lines.{replyTo}
+use Rattle.lines.specs.Lines.{replyTo}
 use Rattle.calls.specs.Room.{Room}
 use Rattle.fields.proofs.Splitting.{pieces-more, pieces-on}
 use Rattle.stream.specs.Input.{repliesTo, outputFor, outputIn, RoomForLines, Replied, Skipped, Stepped, Finished}
@@ -74,19 +74,19 @@ module _ (input : List ℕ) where
       record { within = omega arith; room = omega arith; writes = λ more. refl; moves = λ none. (refl, refl, short, open-line) }
 
   -- there is room for a line cut to one character too many
-  pub cut-room : (bytes out text : List ℕ) → RoomForLines bytes out text → Room (take 200001 input) bytes out text 0
-  cut-room bytes out text r =
+  pub cut-room : (last : ℕ) → last ≤ 200001 → (bytes out text : List ℕ) → RoomForLines bytes out text → Room (take last input) bytes out text 0
+  cut-room last cut bytes out text r =
       record { parts = omega (arith, size, r .parts); buffer = omega (arith, size, r .buffer); answer = omega (arith, size, r .answer) }
     where
-      size : length (take 200001 input) ≤ 200001
-      size = omega (arith, length-take 200001 input)
+      size : length (take last input) ≤ 200001
+      size = omega (arith, length-take last input)
 
   -- a line that is too long is answered as soon as that is seen
-  pub step-long : (old text : List ℕ) (at : ℕ) → until 10 input ≡ length input → 200000 < length input → 200061 ≤ length old →
-      PutWithin (53 + length (take 200001 input)) old 0 (replyTo (take 200001 input)) text at →
+  pub step-long : (old text : List ℕ) (at last : ℕ) → until 10 input ≡ length input → 200000 < length input → 200061 ≤ length old →
+      last ≡ 200001 → PutWithin (53 + length (take last input)) old 0 (replyTo (take last input)) text at →
       Stepped input false text (record { from = length input; at = at; skipping = true })
   unfolding outputIn outputFor
-  step-long old text at open-line long room within =
+  step-long old text at last open-line long room cut within =
       record {
         within = omega arith;
         room = omega (arith, put-length (within .puts), fitting);
@@ -98,13 +98,13 @@ module _ (input : List ℕ) where
       }
     where
       fitting : at ≤ length old
-      fitting = omega (arith, within .short, length-take 200001 input)
+      fitting = omega (arith, within .short, length-take last input)
 
       -- however the line goes on, its reply is the one that is put
       whole : (on : List ℕ) → replyTo (input ++ on) ≡ take at text
       whole on =
-          sym (reply-cut (input ++ on) 200001 (omega arith) (omega (arith, length-append input on)))
-          ∙ ap replyTo (take-append-le 200001 input on (omega arith))
+          sym (reply-cut (input ++ on) last (omega arith) (omega (arith, length-append input on)))
+          ∙ ap replyTo (take-append-le last input on (omega arith))
           ∙ sym (put-front (omega (arith, within .puts .after, fitting)) (within .puts))
 
 -- the last line

@@ -12,10 +12,10 @@ use lib.Seq.{take-take, drop-drop, length-take-le}
 use Rattle.text.specs.Putting.{Put}
 use Rattle.text.proofs.Puts.{put-length, put-front}
 use Rattle.fields.specs.Cuts.{until, pieceFrom}
-use Rattle.calls.specs.Lines.{answerOf, replyTo}
+use Rattle.lines.specs.Lines.{answerOf, replyTo}
 use Rattle.stream.specs.Input.{repliesTo, outputFor, Replied}
 use Rattle.fields.proofs.Splitting.{pieces-more, piece-length}
-use Rattle.calls.proofs.Answering.{answer-long}
+use Rattle.lines.proofs.Answering.{answer-long}
 
 -- a line that is too long may be cut to any length that is too long
 pub reply-cut : (l : List ℕ) (k : ℕ) → 200000 < k → k ≤ length l → replyTo (take k l) ≡ replyTo l

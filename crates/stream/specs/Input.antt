@@ -7,7 +7,7 @@ use Prim.Native.Nat.{ℕ, _≤_, _<_}
 use lib.ListN.{length, take, drop}
 use Rattle.text.specs.Spelling.{spelt}
 use Rattle.fields.specs.Cuts.{cutAt, until}
-use Rattle.calls.specs.Lines.{replyTo}
+use Rattle.lines.specs.Lines.{replyTo}
 use Rattle.stream.specs.declared.Progress.{Progress}
 use Rattle.stream.specs.declared.Step.{Step}
 use Rattle.stream.specs.declared.Hand.{Hand}

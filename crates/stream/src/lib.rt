@@ -6,10 +6,10 @@ ghost use Prim.Native.Nat.{_+_, _-_, _≤_, min};
 ghost use lib.ListN.{length};
 ghost use Rattle.fields.specs.Cuts.{until};
 ghost use Rattle.stream.specs.Input.{Replied, Skipped, Stepped, Finished, RoomForLines, Turned};
-use calls::LINE_FEED;
-use calls::LONGEST;
-use calls::reply;
 use fields::cut::end_of;
+use lines::LINE_FEED;
+use lines::LONGEST;
+use lines::reply;
 use rest::keep;
 
 // A line of more than the longest is cut to one more than that, which is too long all the same.
@@ -113,7 +113,8 @@ fn advance(input: &[u8], skipping: bool, bytes: &mut [u8], out: &mut [u8], text:
             skipping: false,
         };
     }
-    let at = reply(&input[0..CUT], bytes, out, text, 0);
+    let last = cut_end(0, input.len());
+    let at = reply(&input[0..last], bytes, out, text, 0);
     Step {
         from: input.len(),
         at,

@@ -1,6 +1,7 @@
 -- `stream::advance` meets its contract, turn by turn.
 -- Assumes nothing.
 use mathlib.Core.Path.{_≡_}
+use Prim.Native.Nat.{_-_}
 use native.Mathlib.Omega.{arith}
 use lib.ListN.{length}
 use Rattle.fields.specs.Cuts.{until}
@@ -46,17 +47,21 @@ returns-3 c =
     let input = c .before .before .before .before .before .before .before .before .args .input .now in
     rw (c .before .before .before .if1 .left) (step-wait input _ (no-feed (c .before)) (omega (arith, c .if3 .taken)))
 
+cut-end-requires : tie.Need-cut-end-requires
+cut-end-requires c κs = search needs
+
 sub-reply : tie.Need-sub-reply
-sub-reply c = omega arith
+sub-reply c = search needs
 
 part-reply-start : tie.Need-part-reply-start
-part-reply-start c = omega arith
+part-reply-start c = search needs
 
 part-reply-end : tie.Need-part-reply-end
-part-reply-end c = omega (arith, c .if3 .left)
+part-reply-end c = omega (arith, c .cut-end .ensures)
 
 reply-requires : tie.Need-reply-requires
-reply-requires c κs = cut-room (c .before .before .before .before .before .before .before .before .before .before .before .before .args .input .now) _ _ _ (c .before .before .before .before .before .before .before .before .before .before .before .before .pre)
+reply-requires c κs =
+    cut-room (c .before .before .before .before .before .before .before .before .before .before .before .before .before .args .input .now) (c .before .before .before .before .cut-end .result - 0) (omega (arith, c .before .before .before .before .cut-end .ensures)) _ _ _ (c .before .before .before .before .before .before .before .before .before .before .before .before .before .pre)
 
 same-length-4 : tie.Need-same-length-4
 same-length-4 c = c .before .before .before .before .before .before .reply .kept .1 .0
@@ -69,9 +74,11 @@ same-length-6 c = c .before .before .before .before .before .before .reply .kept
 
 returns-4 : tie.Need-returns-4
 returns-4 c =
-    let input = c .before .before .before .before .before .before .before .before .before .before .before .before .before .before .before .before .before .before .before .args .input .now in
-    rw (c .before .before .before .before .before .before .before .before .before .before .before .before .before .before .if1 .left)
-    (step-long input _ _ _ (no-feed (c .before .before .before .before .before .before .before .before .before .before .before .before)) (omega (arith, c .before .before .before .before .before .before .before .before .before .before .before .if3 .left)) (c .before .before .before .before .before .before .before .before .before .before .before .before .before .before .before .before .before .before .before .pre .answer) (c .before .before .before .before .before .before .reply .ensures))
+    let start = c .before .before .before .before .before .before .before .before .before .before .before .before .before .before .before .before .before .before .before .before in
+    let input = start .args .input .now in
+    let long = c .before .before .before .before .before .before .before .before .before .before .before .before .if3 .left in
+    rw (c .before .before .before .before .before .before .before .before .before .before .before .before .before .before .before .if1 .left)
+    (step-long input _ _ _ (c .before .before .before .before .before .before .before .before .before .before .before .cut-end .result - 0) (no-feed (c .before .before .before .before .before .before .before .before .before .before .before .before .before)) (omega (arith, long)) (start .pre .answer) (omega (arith, long, c .before .before .before .before .before .before .before .before .before .before .before .cut-end .ensures)) (c .before .before .before .before .before .before .reply .ensures))
 
 pub advance-spec : {M : Type 1} → statement M
 advance-spec =
@@ -86,6 +93,7 @@ advance-spec =
     same-length-3
     returns-2
     returns-3
+    cut-end-requires
     sub-reply
     part-reply-start
     part-reply-end

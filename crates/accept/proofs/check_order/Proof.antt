@@ -1,0 +1,47 @@
+-- `accept::check_order` meets its contract: the out buffer's check comes last.
+-- Assumes nothing.
+use mathlib.Core.Path.{sym, ap, _∙_}
+use mathlib.Core.List.{[], _∷_}
+use borrow.Author.Needs.{needs}
+use lib.ListN.{length}
+use Rattle.spec.specs.Refusals.{sheetChecks, outCheck}
+use Rattle.accept.specs.Form.{formSays}
+use Rattle.accept.proofs.Refused.{chain-refused, chain-passed}
+use Rattle.accept.proofs.check_order.Statement.{statement}
+use Rattle.accept.proofs.check_order.Tie as tie
+
+check-sheet-call-requires : tie.Need-check-sheet-call-requires
+check-sheet-call-requires c κs = search needs
+
+enum-known-form : tie.Need-enum-known-form
+enum-known-form c = search needs
+
+returns : tie.Need-returns
+returns c =
+    let start = c .before .before .before .before .before .before .before .before in
+    chain-refused (c .before .form .given .0 .0) (sheetChecks (start .args .maker .now) (start .args .depot .now) (start .args .sheet .now)) (outCheck (length (start .args .sheet .now)) (start .args .out .now) ∷ [])
+    (ap formSays (sym (c .before .form .given .1)) ∙ c .before .before .before .check-sheet-call .ensures)
+
+enum-told : tie.Need-enum-told
+enum-told c = search needs
+
+check-out-requires : tie.Need-check-out-requires
+check-out-requires c κs = search needs
+
+returns-2 : tie.Need-returns-2
+returns-2 c =
+    let start = c .before .before .before .before .before .before .before .before in
+    chain-passed (sheetChecks (start .args .maker .now) (start .args .depot .now) (start .args .sheet .now)) (outCheck (length (start .args .sheet .now)) (start .args .out .now) ∷ [])
+    (ap formSays (sym (c .before .enum-told .given .1)) ∙ c .before .before .before .check-sheet-call .ensures)
+    (c .check-out .ensures)
+
+pub check-order-spec : {M : Type 1} → statement M
+check-order-spec =
+    tie.close
+    (tie.spec
+    check-sheet-call-requires
+    enum-known-form
+    returns
+    enum-told
+    check-out-requires
+    returns-2)

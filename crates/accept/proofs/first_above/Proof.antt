@@ -1,0 +1,51 @@
+-- `accept::first_above` meets its contract: no byte passed is above `top`.
+-- Assumes nothing.
+use Prim.Native.Nat.{_-_}
+use borrow.Author.Needs.{needs}
+use borrow.Author.Tests.{lt-ltb, le-ltb}
+use lib.Dec.{ltb}
+use lib.ListN.{length, getD}
+use Rattle.lemmas.proofs.Lowest.{Searched, searched-start, searched-next, searched-found, searched-all}
+use Rattle.accept.proofs.first_above.Statement.{statement}
+use Rattle.accept.proofs.first_above.Tie as tie
+
+abbrev Inv-loop : tie.InvT-loop
+Inv-loop s top i₀ i = Searched (λ b. ltb top (getD s b 0)) (length s) i
+
+abbrev μ-loop : tie.MeasureT-loop
+μ-loop s top i₀ i = length s - i
+
+loop-holds : tie.Need-loop-holds Inv-loop μ-loop
+loop-holds c = searched-start
+
+shared-slice-read-if1 : tie.Need-shared-slice-read-if1 Inv-loop μ-loop
+shared-slice-read-if1 c = search needs
+
+returns : tie.Need-returns Inv-loop μ-loop
+returns c = searched-found (c .before .before .before .loop .inv) (search needs) (lt-ltb _ _ (c .if1 .taken))
+
+add-i : tie.Need-add-i Inv-loop μ-loop
+add-i c = search needs
+
+loop-less : tie.Need-loop-less Inv-loop μ-loop
+loop-less c = search needs
+
+loop-again : tie.Need-loop-again Inv-loop μ-loop
+loop-again c = searched-next (c .before .before .before .loop .inv) (search needs) (le-ltb _ _ (c .if1 .left))
+
+returns-2 : tie.Need-returns-2 Inv-loop μ-loop
+returns-2 c = searched-all (c .before .loop .inv) (search needs)
+
+pub first-above-spec : {M : Type 1} → statement M
+first-above-spec =
+    tie.close
+    (tie.spec
+    Inv-loop
+    μ-loop
+    loop-holds
+    shared-slice-read-if1
+    returns
+    add-i
+    loop-less
+    loop-again
+    returns-2)

@@ -1,4 +1,0 @@
-pub mod Texts
-pub mod Shown
-pub mod Answering
-pub mod Samples

@@ -1,0 +1,2 @@
+pub mod NoKind
+pub mod Tables

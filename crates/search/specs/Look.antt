@@ -1,0 +1,32 @@
+-- What the search looks at: the lowest open box, and how the first boxes stand to the given list.
+-- Assumes nothing.
+use mathlib.Core.Path.{_≡_}
+use mathlib.Core.Logic.{_⊎_}
+use mathlib.Core.Bool.{Bool, true, false}
+use mathlib.Core.List.{List}
+use Prim.Native.Nat.{ℕ, _≤_, _<_}
+use lib.ListN.{getD}
+use Rattle.kits.specs.Order.{LessAt}
+use Rattle.search.specs.declared.look.Way.{Way}
+use Rattle.search.specs.declared.look.Way.the-variants.{Before, Level, Past}
+
+-- no box below b is open, and box b is, unless it is n
+pub record LowestOpen (t : List ℕ) (n b : ℕ) : Type 0 where
+  pub within : b ≤ n
+  pub settled : (c : ℕ) → c < b → getD t c 2 ≡ 2 → ⊥
+  pub opened : b < n → getD t b 2 ≡ 2
+
+-- one list has less at one of the first b boxes, and the same below it
+abbrev pub LessBelow : List ℕ → List ℕ → ℕ → Type 0
+LessBelow l k b = (c : ℕ) × (c < b) × LessAt l k c
+
+-- the first b boxes of t stand before the given list, are the same, or stand past it; where none is to be passed, they are past
+abbrev pub Stands : List ℕ → List ℕ → ℕ → Bool → Way → Type 0
+Stands t given b after Before = (after ≡ true) × LessBelow t given b
+Stands t given b after Level = (after ≡ true) × ((c : ℕ) → c < b → getD t c 2 ≡ getD given c 2)
+Stands t given b after Past = (after ≡ false) ⊎ LessBelow given t b
+
+abbrev pub levelOf : Way → Bool
+levelOf Before = false
+levelOf Level = true
+levelOf Past = false
