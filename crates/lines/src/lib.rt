@@ -1,4 +1,4 @@
-// A call as a line of text, and its answer as another.
+// What is written for a line of text: nothing, the answer to a call, or what is wrong with it.
 ghost use Prim.Native.Nat.{_+_};
 ghost use lib.ListN.{length};
 ghost use Rattle.text.specs.Putting.{PutWithin};

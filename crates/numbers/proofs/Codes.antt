@@ -1,7 +1,8 @@
 -- What the first of the three numbers tells: 1 stands for a refusal alone, 2 for a broken record alone, 0 for what was asked.
 -- Assumes nothing.
-use mathlib.Core.Path.{_≡_, refl, _∙_, ap}
-use mathlib.Core.List.{[], _∷_}
+use mathlib.Core.Path.{_≡_, refl, sym, _∙_, ap}
+use mathlib.Core.List.{List, [], _∷_}
+use Prim.Native.Nat.{ℕ}
 use Rattle.spec.specs.Refusals.{Said, refused, passed, fits, broken, filled, list}
 use Rattle.accept.proofs.Refused.{numbered}
 use Rattle.accept.specs.declared.Refusal.{Refusal}
@@ -17,6 +18,10 @@ use Rattle.lists.specs.declared.Listed.the-variants as listed
 use Rattle.lists.specs.Answer.{listedSays}
 use Rattle.numbers.specs.declared.Numbers.{Numbers}
 use Rattle.numbers.specs.Numbering.{threeOf, inOrder}
+
+-- what is told of one answer is told of another that is the same
+pub told : {A : Type 0} (says : A → Said) {l : List ℕ} {a b : A} → a ≡ b → l ≡ threeOf (says b) → l ≡ threeOf (says a)
+told {A} says e h = h ∙ ap (λ (x : A). threeOf (says x)) (sym e)
 
 module _ (n : Numbers) where
   pub code-refused : (s : Said) → inOrder n ≡ threeOf s → n .code ≡ 1 → s ≡ refused (n .first) (n .second)

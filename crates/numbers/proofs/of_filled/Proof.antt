@@ -1,6 +1,8 @@
 -- `numbers::of_filled` meets its contract: in each arm the answer is the arm's.
 -- Assumes nothing.
 use borrow.Author.Needs.{needs}
+use Rattle.fill.specs.Answer.{filledSays}
+use Rattle.numbers.proofs.Codes.{told}
 use Rattle.numbers.proofs.of_filled.Statement.{statement}
 use Rattle.numbers.proofs.of_filled.Tie as tie
 
@@ -29,16 +31,16 @@ of-refusal-requires : tie.Need-of-refusal-requires
 of-refusal-requires c κs = search needs
 
 returns : tie.Need-returns
-returns c = cc
+returns c = told filledSays (c .before .before .answer .given .1) (c .three .ensures)
 
 returns-2 : tie.Need-returns-2
-returns-2 c = cc
+returns-2 c = told filledSays (c .before .enum-told .given .1) (c .three2 .ensures)
 
 returns-3 : tie.Need-returns-3
-returns-3 c = cc
+returns-3 c = told filledSays (c .before .before .answer2 .given .1) (c .three3 .ensures)
 
 returns-4 : tie.Need-returns-4
-returns-4 c = cc
+returns-4 c = told filledSays (c .before .before .answer3 .given .1) (c .of-refusal .ensures)
 
 pub of-filled-spec : {M : Type 1} → statement M
 of-filled-spec =

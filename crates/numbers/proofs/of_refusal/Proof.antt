@@ -1,6 +1,8 @@
 -- `numbers::of_refusal` meets its contract: in each arm the refusal is the arm's.
 -- Assumes nothing.
 use borrow.Author.Needs.{needs}
+use Rattle.accept.specs.Form.{refusalSays}
+use Rattle.numbers.proofs.Codes.{told}
 use Rattle.numbers.proofs.of_refusal.Statement.{statement}
 use Rattle.numbers.proofs.of_refusal.Tie as tie
 
@@ -59,31 +61,31 @@ three-requires-9 : tie.Need-three-requires-9
 three-requires-9 c κs = search needs
 
 returns : tie.Need-returns
-returns c = cc
+returns c = told refusalSays (c .before .enum-told .given .1) (c .three .ensures)
 
 returns-2 : tie.Need-returns-2
-returns-2 c = cc
+returns-2 c = told refusalSays (c .before .enum-told2 .given .1) (c .three2 .ensures)
 
 returns-3 : tie.Need-returns-3
-returns-3 c = cc
+returns-3 c = told refusalSays (c .before .enum-told3 .given .1) (c .three3 .ensures)
 
 returns-4 : tie.Need-returns-4
-returns-4 c = cc
+returns-4 c = told refusalSays (c .before .enum-told4 .given .1) (c .three4 .ensures)
 
 returns-5 : tie.Need-returns-5
-returns-5 c = cc
+returns-5 c = told refusalSays (c .before .before .why .given .1) (c .three5 .ensures)
 
 returns-6 : tie.Need-returns-6
-returns-6 c = cc
+returns-6 c = told refusalSays (c .before .before .why2 .given .1) (c .three6 .ensures)
 
 returns-7 : tie.Need-returns-7
-returns-7 c = cc
+returns-7 c = told refusalSays (c .before .enum-told5 .given .1) (c .three7 .ensures)
 
 returns-8 : tie.Need-returns-8
-returns-8 c = cc
+returns-8 c = told refusalSays (c .before .enum-told6 .given .1) (c .three8 .ensures)
 
 returns-9 : tie.Need-returns-9
-returns-9 c = cc
+returns-9 c = told refusalSays (c .before .before .why3 .given .1) (c .three9 .ensures)
 
 pub of-refusal-spec : {M : Type 1} → statement M
 of-refusal-spec =

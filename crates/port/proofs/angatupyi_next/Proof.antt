@@ -1,6 +1,8 @@
 -- `port::angatupyi_next` meets its contract: Next's answer, as its three numbers, and what Next writes.
 -- Assumes nothing.
+use mathlib.Core.Path.{_∙_, ap}
 use borrow.Author.Needs.{needs}
+use Rattle.numbers.specs.Numbering.{threeOf}
 use Rattle.port.proofs.angatupyi_next.Statement.{statement}
 use Rattle.port.proofs.angatupyi_next.Tie as tie
 
@@ -14,7 +16,9 @@ same-length : tie.Need-same-length
 same-length c = search needs
 
 returns : tie.Need-returns
-returns c = record { says = cc; writes = cc }
+returns c =
+    let done = c .before .before .before .before .next .ensures in
+    record { says = c .before .of-listed .ensures ∙ ap threeOf (done .says); writes = done .writes }
 
 pub angatupyi-next-spec : {M : Type 1} → statement M
 angatupyi-next-spec = tie.close (tie.spec next-requires of-listed-requires same-length returns)

@@ -1,6 +1,6 @@
 -- `port::angatupyi_show` meets its contract: Test's answer tells where the part lies.
 -- Assumes nothing.
-use mathlib.Core.Path.{_≡_}
+use mathlib.Core.Path.{_≡_, _∙_, ap}
 use native.Mathlib.Omega.{arith}
 use borrow.Author.Needs.{needs}
 use Rattle.spec.specs.Fits.{testSays}
@@ -19,7 +19,7 @@ of-tested-requires c κs = search needs
 told : (c : tie.After-of-tested) →
     let a = c .before .before .before .before .before .args in
     inOrder (c .of-tested .result) ≡ threeOf (testSays (a .maker .now) (a .depot .now) (a .list .now))
-told c = cc
+told c = c .of-tested .ensures ∙ ap threeOf (c .before .test .ensures)
 
 returns : tie.Need-returns
 returns c = part-none _ _ _ _ (told (c .before .before .before)) (c .before .if1 .taken)
