@@ -9,21 +9,9 @@ ghost use Rattle.spec.specs.Refusals.{passed, judge, tableChecks, sheetCheck, g
 ghost use Rattle.spec.specs.Fits.{testChecks};
 ghost use Rattle.records.specs.Record.{WholeRecords};
 ghost use Rattle.accept.specs.Form.{formSays};
+use answers::Refusal;
 use records::is_bad;
 use records::record_at;
-
-// What is wrong with the form of a call.
-pub enum Refusal {
-    Boxes,
-    MakerLength,
-    DepotLength,
-    RecordCount,
-    BadRecord(usize),
-    SheetByte(usize),
-    GivenLength,
-    OutLength,
-    ListByte(usize),
-}
 
 pub enum Form {
     Passed,

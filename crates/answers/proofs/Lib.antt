@@ -1,1 +1,3 @@
-pub mod Shown
+pub mod Refused
+pub mod Codes
+pub mod Told

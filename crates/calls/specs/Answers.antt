@@ -3,7 +3,7 @@
 use mathlib.Core.List.{List, []}
 use Prim.Native.Nat.{ℕ}
 use Rattle.fields.specs.Fields.{part}
-use Rattle.answers.specs.Answers.{fillAnswer, testAnswer, showAnswer, firstAnswer, nextAnswer}
+use Rattle.operations.specs.Answers.{fillAnswer, testAnswer, showAnswer, firstAnswer, nextAnswer}
 use Rattle.fields.specs.declared.word.Word.{Word}
 use Rattle.fields.specs.declared.word.Word.the-variants.{Fill, Test, Show, First, Next, Unknown}
 

@@ -7,14 +7,14 @@ ghost use Rattle.calls.specs.Answers.{answerTo};
 ghost use Rattle.fields.specs.Words.{arity};
 ghost use Rattle.fields.specs.Parts.{HasFields};
 ghost use Rattle.calls.specs.Room.{Room};
-use answers::operation::answer_fill;
-use answers::operation::answer_first;
-use answers::operation::answer_next;
-use answers::operation::answer_show;
-use answers::operation::answer_test;
 use fields::parts::next_part;
 use fields::parts::take_parts;
 use fields::word::Word;
+use operations::answer_fill;
+use operations::answer_first;
+use operations::answer_next;
+use operations::answer_show;
+use operations::answer_test;
 
 fn call_test(line: &[u8], from: usize, bytes: &mut [u8], text: &mut [u8], at: usize) -> usize
     requires { ⌜ HasFields (now line) from 3 ⌝ }

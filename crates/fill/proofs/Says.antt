@@ -10,13 +10,14 @@ use Rattle.spec.specs.Records.{recordCount, rulesIn}
 use Rattle.spec.proofs.Closed.{closed-length}
 use Rattle.spec.specs.Fits.{firstBroken}
 use Rattle.spec.specs.Fill.{closureOf, openCount, boxesFilled}
-use Rattle.accept.specs.declared.Refusal.{Refusal}
-use Rattle.accept.specs.Form.{refusalSays}
-use Rattle.accept.proofs.Refused.{numbered}
+use Rattle.answers.specs.declared.Refusal.{Refusal}
+use Rattle.answers.specs.Says.{refusalSays}
+use Rattle.answers.proofs.Refused.{numbered}
 use Rattle.theory.proofs.Filling.{Fills, fill-refused, fill-broken, fill-filled}
-use Rattle.fill.specs.declared.Filled.{Filled}
-use Rattle.fill.specs.declared.Filled.the-variants.{Boxes, Broken, Refused}
-use Rattle.fill.specs.Answer.{filledSays, FillDoes, FormPassed, FillsTo}
+use Rattle.answers.specs.declared.Filled.{Filled}
+use Rattle.answers.specs.declared.Filled.the-variants.{Boxes, Broken, Refused}
+use Rattle.answers.specs.Says.{filledSays}
+use Rattle.fill.specs.Answer.{FillDoes, FormPassed, FillsTo}
 
 -- a law of Fill's equations, as the promise has it
 pub does : {maker depot sheet out : List ℕ} (answer : Filled) {left : List ℕ} {said : Said} →

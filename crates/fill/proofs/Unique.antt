@@ -8,10 +8,11 @@ use native.Mathlib.Omega.{arith}
 use borrow.Author.Tests.{ne-eqb}
 use lib.Dec.{eqb}
 use Rattle.spec.specs.Refusals.{Said, refused, passed, fits, broken, filled, list}
-use Rattle.accept.proofs.Refused.{numbered, refusalFor, refusal-back}
-use Rattle.fill.specs.declared.Filled.{Filled}
-use Rattle.fill.specs.declared.Filled.the-variants.{Boxes, Clash, Broken, Refused}
-use Rattle.fill.specs.Answer.{filledSays, FillDoes}
+use Rattle.answers.proofs.Refused.{numbered, refusalFor, refusal-back}
+use Rattle.answers.specs.declared.Filled.{Filled}
+use Rattle.answers.specs.declared.Filled.the-variants.{Boxes, Clash, Broken, Refused}
+use Rattle.answers.specs.Says.{filledSays}
+use Rattle.fill.specs.Answer.{FillDoes}
 
 -- the answer that says this
 filledFor : Said → Filled

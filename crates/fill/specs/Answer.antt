@@ -1,4 +1,4 @@
--- The paper's number and values for every case of Fill's answer, and Fill's promise.
+-- Fill's promise.
 -- Assumes nothing.
 use mathlib.Core.Path.{_≡_}
 use mathlib.Core.List.{List}
@@ -6,17 +6,10 @@ use Prim.Native.Nat.{ℕ}
 use lib.ListN.{length}
 use Rattle.spec.specs.Records.{rulesIn}
 use Rattle.spec.specs.Facts as facts
-use Rattle.spec.specs.Refusals.{Said, refused, passed, filled, judge, orderChecks}
+use Rattle.spec.specs.Refusals.{passed, judge, orderChecks}
 use Rattle.spec.specs.Fill.{closureOf, fillSays, fillWrites}
-use Rattle.accept.specs.Form.{refusalSays}
-use Rattle.fill.specs.declared.Filled.{Filled}
-use Rattle.fill.specs.declared.Filled.the-variants.{Boxes, Clash, Broken, Refused}
-
-abbrev pub filledSays : Filled → Said
-filledSays (Boxes count) = filled count
-filledSays Clash = refused 7 0
-filledSays (Broken number) = refused 8 number
-filledSays (Refused why) = refusalSays why
+use Rattle.answers.specs.Says.{filledSays}
+use Rattle.answers.specs.declared.Filled.{Filled}
 
 -- the promise: the answer, and every byte of the out buffer
 pub record FillDoes (maker depot sheet out : List ℕ) (answer : Filled) (left : List ℕ) : Type 0 where

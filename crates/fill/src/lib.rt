@@ -1,8 +1,8 @@
 // The public operation Fill: the checks, the engine, and what is written.
 ghost use Rattle.fill.specs.Answer.{FormPassed, Fillable, FillsTo, FillDoes};
 use accept::Form;
-use accept::Refusal;
 use accept::check_order;
+use answers::Filled;
 use broken::first_broken;
 use engine::run;
 use sheet::count_filled;
@@ -11,13 +11,6 @@ use sheet::load;
 use sheet::store;
 use tables::Tables;
 use tables::carry;
-
-pub enum Filled {
-    Boxes(usize),
-    Clash,
-    Broken(usize),
-    Refused(Refusal),
-}
 
 // A filled sheet with no open box is tested once more before it is written.
 fn hand_out<'a>(

@@ -10,9 +10,9 @@ use Rattle.spec.specs.Records.{recordCount}
 use Rattle.spec.specs.Refusals.{fits, broken, passed, judge}
 use Rattle.spec.specs.Fits.{firstBroken, testChecks, testSays, Part, partFor, showsPart}
 use Rattle.spec.proofs.Judge.{judge-passed}
-use Rattle.accept.specs.Form.{refusalSays}
-use Rattle.accept.specs.declared.Refusal.{Refusal}
-use Rattle.accept.proofs.Refused.{numbered, refusal-said}
+use Rattle.answers.specs.Says.{refusalSays}
+use Rattle.answers.specs.declared.Refusal.{Refusal}
+use Rattle.answers.proofs.Refused.{numbered, refusal-said}
 use Rattle.fits.specs.Answer.{judged, Shows}
 
 module _ (maker depot l : List ℕ) where

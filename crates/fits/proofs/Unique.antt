@@ -8,12 +8,13 @@ use native.Mathlib.Omega.{arith}
 use denote.Ref.{RefT, now, ptr}
 use Rattle.spec.specs.Refusals.{Said, refused, fits, broken}
 use Rattle.spec.specs.Fits.{Part}
-use Rattle.accept.specs.declared.Refusal.{Refusal}
-use Rattle.accept.specs.Form.{refusalSays}
-use Rattle.accept.proofs.Refused.{numbered, refusal-unique}
-use Rattle.fits.specs.declared.Tested.{Tested}
-use Rattle.fits.specs.declared.Tested.the-variants.{Fits, Broken, Refused}
-use Rattle.fits.specs.Answer.{testedSays, Shows}
+use Rattle.answers.specs.declared.Refusal.{Refusal}
+use Rattle.answers.specs.Says.{refusalSays}
+use Rattle.answers.proofs.Refused.{numbered, refusal-unique}
+use Rattle.answers.specs.declared.Tested.{Tested}
+use Rattle.answers.specs.declared.Tested.the-variants.{Fits, Broken, Refused}
+use Rattle.answers.specs.Says.{testedSays}
+use Rattle.fits.specs.Answer.{Shows}
 
 refusal-not : (why : Refusal) (a : Said) → ((number place : ℕ) → refused number place ≡ a → ⊥) → refusalSays why ≡ a → ⊥
 refusal-not why a h e = let r = numbered why in h (r .0) (r .1) (sym (r .2) ∙ e)

@@ -1,21 +1,13 @@
--- The paper's number and values for every case of Test's answer; and what it is to show a part of one of two lent tables.
+-- What Test says of accepted tables; and what it is to show a part of one of two lent tables.
 -- Assumes nothing.
 use mathlib.Core.Path.{_≡_}
 use mathlib.Core.Bool.{cond}
 use mathlib.Core.List.{List}
 use Prim.Native.Nat.{ℕ, _+_}
 use denote.Ref.{RefT, now, ptr}
-use Rattle.spec.specs.Refusals.{Said, fits, broken}
+use Rattle.spec.specs.Refusals.{Said}
 use Rattle.spec.specs.Records.{recordCount}
 use Rattle.spec.specs.Fits.{firstBroken, tested, Part, bytesOf}
-use Rattle.accept.specs.Form.{refusalSays}
-use Rattle.fits.specs.declared.Tested.{Tested}
-use Rattle.fits.specs.declared.Tested.the-variants.{Fits, Broken, Refused}
-
-abbrev pub testedSays : Tested → Said
-testedSays Fits = fits
-testedSays (Broken number) = broken number
-testedSays (Refused why) = refusalSays why
 
 -- what Test says of accepted tables and a full list
 abbrev pub judged : (maker depot l : List ℕ) → Said

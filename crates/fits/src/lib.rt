@@ -4,20 +4,15 @@ ghost use Rattle.spec.specs.Fits.{testSays, partFor, showsPart};
 ghost use Rattle.spec.proofs.Accepted.{Accepted};
 ghost use Rattle.tables.specs.Carried.{Carried};
 ghost use Rattle.broken.specs.Counted.{Counted};
-ghost use Rattle.fits.specs.Answer.{testedSays, judged, Shows};
+ghost use Rattle.answers.specs.Says.{testedSays};
+ghost use Rattle.fits.specs.Answer.{judged, Shows};
 use accept::Form;
-use accept::Refusal;
 use accept::check_test;
+use answers::Tested;
 use broken::first_broken;
 use tables::Tables;
 use tables::carry;
 use tables::count;
-
-pub enum Tested {
-    Fits,
-    Broken(usize),
-    Refused(Refusal),
-}
 
 // What Test has left to say once the checks have passed.
 fn test_accepted<'a>(maker: &'a [u8], depot: &'a [u8], count: usize, list: &[u8]) -> Tested

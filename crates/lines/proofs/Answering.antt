@@ -16,7 +16,7 @@ use Rattle.text.specs.Spelling.{ascii}
 use Rattle.fields.specs.Words.{wordOf, isKnown, arity}
 use Rattle.fields.specs.Cuts.{until}
 use Rattle.fields.specs.Fields.{fieldsOf, isField}
-use Rattle.answers.specs.Answers.{errorFor}
+use Rattle.words.specs.Words.{errorFor}
 use Rattle.calls.specs.Answers.{answerTo}
 use Rattle.fields.specs.Parts.{HasFields}
 use Rattle.lines.specs.Lines.{lineWord, answerOf, replyTo}

@@ -9,7 +9,7 @@ use Rattle.lemmas.specs.Lists.{all}
 use Rattle.text.specs.Spelling.{ascii}
 use Rattle.fields.specs.Words.{wordOf, isKnown, arity}
 use Rattle.fields.specs.Fields.{fieldsOf, isField}
-use Rattle.answers.specs.Answers.{errorFor}
+use Rattle.words.specs.Words.{errorFor}
 use Rattle.calls.specs.Answers.{answerTo}
 use Rattle.fields.specs.declared.word.Word.{Word}
 

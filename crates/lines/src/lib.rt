@@ -4,7 +4,6 @@ ghost use lib.ListN.{length};
 ghost use Rattle.text.specs.Putting.{PutWithin};
 ghost use Rattle.calls.specs.Room.{Room};
 ghost use Rattle.lines.specs.Lines.{answerOf, replyTo};
-use answers::say::put_error;
 use calls::call;
 use fields::cut::count_pieces;
 use fields::cut::end_of;
@@ -14,6 +13,7 @@ use fields::word::Word;
 use fields::word::arity_of;
 use fields::word::word_of;
 use text::put_byte;
+use words::put_error;
 
 // Longer lines are not taken.
 pub const LONGEST: usize = 200000;

@@ -19,13 +19,13 @@ use Rattle.kits.specs.Order.{AnswerTo}
 use Rattle.kits.specs.Kit.{Wanted}
 use Rattle.kits.proofs.Sheets.{cells-answer, kit-answer, sheet-past}
 use Rattle.kits.proofs.Says.{first-found, first-none, first-refused, next-found, next-none, next-refused}
-use Rattle.accept.specs.declared.Refusal.{Refusal}
-use Rattle.accept.specs.Form.{refusalSays}
-use Rattle.accept.proofs.Refused.{numbered}
+use Rattle.answers.specs.declared.Refusal.{Refusal}
+use Rattle.answers.specs.Says.{refusalSays}
+use Rattle.answers.proofs.Refused.{numbered}
 use Rattle.search.specs.Ready.{Ready}
 use Rattle.lists.specs.Answer.{FirstDoes, NextDoes, InCall, Chosen}
-use Rattle.lists.specs.declared.Listed.{Listed}
-use Rattle.lists.specs.declared.Listed.the-variants as listed
+use Rattle.answers.specs.declared.Listed.{Listed}
+use Rattle.answers.specs.declared.Listed.the-variants as listed
 
 module _ (n : ℕ) (maker depot sheet given : List ℕ) (after : Bool) (out : List ℕ) (call : InCall n maker depot sheet given after out) where
   pub call-tables : Accepted n maker depot

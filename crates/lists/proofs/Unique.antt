@@ -8,10 +8,11 @@ use native.Mathlib.Omega.{arith}
 use borrow.Author.Tests.{ne-eqb}
 use lib.Dec.{eqb}
 use Rattle.spec.specs.Refusals.{Said, refused, passed, fits, broken, filled, list}
-use Rattle.accept.proofs.Refused.{numbered, refusalFor, refusal-back}
-use Rattle.lists.specs.declared.Listed.{Listed}
-use Rattle.lists.specs.declared.Listed.the-variants as listed
-use Rattle.lists.specs.Answer.{listedSays, FirstDoes, NextDoes}
+use Rattle.answers.proofs.Refused.{numbered, refusalFor, refusal-back}
+use Rattle.answers.specs.declared.Listed.{Listed}
+use Rattle.answers.specs.declared.Listed.the-variants as listed
+use Rattle.answers.specs.Says.{listedSays}
+use Rattle.lists.specs.Answer.{FirstDoes, NextDoes}
 
 -- the answer that says this
 answerFor : Said → Listed

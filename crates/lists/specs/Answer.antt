@@ -1,23 +1,17 @@
--- The paper's number and values for every case of First's and Next's answer, and their promises.
+-- First's and Next's promises.
 -- Assumes nothing.
 use mathlib.Core.Path.{_≡_}
 use mathlib.Core.Bool.{Bool, true, false}
 use mathlib.Core.List.{List}
 use lib.ListN.{length}
 use Prim.Native.Nat.{ℕ}
-use Rattle.spec.specs.Refusals.{Said, refused, passed, list, judge, sheetChecks}
+use Rattle.spec.specs.Refusals.{passed, judge, sheetChecks}
 use Rattle.spec.specs.Records.{rulesIn}
 use Rattle.spec.specs.Kits.{firstSays, firstWrites, nextSays, nextWrites}
 use Rattle.kits.specs.Order.{AnswerTo}
 use Rattle.kits.specs.Kit.{Wanted}
-use Rattle.accept.specs.Form.{refusalSays}
-use Rattle.lists.specs.declared.Listed.{Listed}
-use Rattle.lists.specs.declared.Listed.the-variants as listed
-
-abbrev pub listedSays : Listed → Said
-listedSays listed.List = list
-listedSays listed.None = refused 9 0
-listedSays (listed.Refused why) = refusalSays why
+use Rattle.answers.specs.Says.{listedSays}
+use Rattle.answers.specs.declared.Listed.{Listed}
 
 -- First's promise: the answer, and every byte of the out buffer
 pub record FirstDoes (maker depot sheet out : List ℕ) (answer : Listed) (left : List ℕ) : Type 0 where

@@ -1,20 +1,14 @@
 // The public operations First and Next.
 ghost use Rattle.lists.specs.Answer.{FirstDoes, NextDoes, InCall, Chosen};
 use accept::Form;
-use accept::Refusal;
 use accept::check_next;
 use accept::check_order;
+use answers::Listed;
 use search::search;
 use sheet::load;
 use sheet::store;
 use tables::Tables;
 use tables::carry;
-
-pub enum Listed {
-    List,
-    None,
-    Refused(Refusal),
-}
 
 // What is left to do once the checks have passed: writes the first kit of the sheet, and if `after` the first strictly after the
 // given list; answers whether there is one.

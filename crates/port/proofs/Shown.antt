@@ -9,9 +9,9 @@ use Rattle.spec.specs.Refusals.{broken}
 use Rattle.spec.specs.Fits.{testSays, showsPart}
 use Rattle.spec.proofs.Broken.{broken-is, shows-maker, shows-depot}
 use Rattle.spec.proofs.Shown.{shown-empty}
-use Rattle.numbers.specs.declared.Numbers.{Numbers}
-use Rattle.numbers.specs.Numbering.{threeOf, inOrder}
-use Rattle.numbers.proofs.Codes.{code-broken}
+use Rattle.answers.specs.declared.Numbers.{Numbers}
+use Rattle.answers.specs.Numbering.{threeOf, inOrder}
+use Rattle.answers.proofs.Codes.{code-broken}
 use Rattle.port.specs.Face.{threeOfPart}
 
 module _ (n : Numbers) (maker depot l : List ℕ) (e : inOrder n ≡ threeOf (testSays maker depot l)) where

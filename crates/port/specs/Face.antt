@@ -7,7 +7,7 @@ use Prim.Native.Nat.{ℕ}
 use Rattle.spec.specs.Fits.{Part}
 use Rattle.spec.specs.Fill.{fillSays, fillWrites}
 use Rattle.spec.specs.Kits.{firstSays, firstWrites, nextSays, nextWrites}
-use Rattle.numbers.specs.Numbering.{threeOf}
+use Rattle.answers.specs.Numbering.{threeOf}
 
 -- which table, 0 the maker's and 1 the depot's; where the part starts; how many bytes it has
 abbrev pub threeOfPart : Part → List ℕ

@@ -8,16 +8,16 @@
 //     Next   as First
 ghost use mathlib.Core.Path.{_≡_};
 ghost use Rattle.spec.specs.Fits.{testSays, showsPart};
-ghost use Rattle.numbers.specs.Numbering.{threeOf};
+ghost use Rattle.answers.specs.Numbering.{threeOf};
 ghost use Rattle.port.specs.Face.{threeOfPart, FillAnswers, FirstAnswers, NextAnswers};
+use answers::BROKEN;
+use answers::of_filled;
+use answers::of_listed;
+use answers::of_tested;
 use desk::fill;
 use desk::first;
 use desk::next;
 use desk::test;
-use numbers::BROKEN;
-use numbers::of_filled;
-use numbers::of_listed;
-use numbers::of_tested;
 
 #[no_mangle]
 pub extern "C" fn angatupyi_test<'a>(

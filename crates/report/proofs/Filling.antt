@@ -12,9 +12,10 @@ use Rattle.spec.specs.Refusals.{Said, refused, passed, filled, judge, boxesChec
 use Rattle.spec.specs.Fill.{openCount, closureOf, written, fillSays, fillWrites}
 use Rattle.spec.specs.Kits.{kits}
 use Rattle.spec.proofs.Judge.{judge-append, judge-passes, judge-reached, refused-passed}
-use Rattle.fill.specs.declared.Filled.{Filled}
-use Rattle.fill.specs.Answer.{filledSays, FillDoes}
-use Rattle.report.specs.Listing.{refusedLine, headerLine, kitLines, listingBy, listingOf}
+use Rattle.answers.specs.declared.Filled.{Filled}
+use Rattle.answers.specs.Says.{filledSays}
+use Rattle.fill.specs.Answer.{FillDoes}
+use Rattle.layout.specs.Listing.{refusedLine, headerLine, kitLines, listingBy, listingOf}
 use Rattle.report.specs.Turns.{RoomForSheet}
 
 -- tables and sheet that pass: there are no more than 256 boxes

@@ -10,8 +10,9 @@ use Rattle.spec.specs.Kits.{kits, kitsAfter, firstSays, firstWrites, nextSays, 
 use Rattle.kits.specs.Kit.{IsFull}
 use Rattle.kits.proofs.Form.{first-passes, next-passes}
 use Rattle.kits.proofs.Says.{first-head, first-empty, next-head, next-empty}
-use Rattle.lists.specs.declared.Listed.{Listed}
-use Rattle.lists.specs.Answer.{listedSays, FirstDoes, NextDoes}
+use Rattle.answers.specs.declared.Listed.{Listed}
+use Rattle.answers.specs.Says.{listedSays}
+use Rattle.lists.specs.Answer.{FirstDoes, NextDoes}
 use Rattle.report.specs.Turns.{saysList, Listable, AtHead}
 
 -- 9 is said where there is no list, and the head is written where there is one

@@ -2,4 +2,3 @@ pub mod Rooms
 pub mod Filling
 pub mod Heads
 pub mod Showing
-pub mod Samples

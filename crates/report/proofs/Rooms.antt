@@ -1,19 +1,12 @@
--- How many digits a list has, and the buffers lent for a sheet.
+-- The buffers lent for a sheet.
 -- Assumes nothing.
-use mathlib.Core.Path.{_≡_, refl, sym, _∙_}
+use mathlib.Core.Path.{_≡_, sym, _∙_}
 use mathlib.Core.List.{List}
 use Prim.Native.Nat.{ℕ, _≤_}
 use native.Mathlib.Omega.{arith}
 use lib.ListN.{length, take}
 use lib.Seq.{length-take-le}
-use Rattle.text.specs.Spelling.{digit, digitsOf}
-use Rattle.text.proofs.Spells.{spelt-length}
 use Rattle.report.specs.Turns.{RoomForSheet}
-
--- a digit a byte
-pub digits-length : (l : List ℕ) → length (digitsOf l) ≡ length l
-unfolding digitsOf
-digits-length l = spelt-length digit 1 (λ b. refl) l ∙ omega arith
 
 -- the first n bytes of a buffer of 256, lent for a sheet
 pub front-size : (n : ℕ) (buffer : List ℕ) → n ≤ 256 → 256 ≡ length buffer → n ≡ length (take n buffer)

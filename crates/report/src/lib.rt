@@ -1,4 +1,3 @@
 // What the listing program writes, as bytes in a lent buffer.
-pub mod lines;
 pub mod listing;
 pub mod turns;

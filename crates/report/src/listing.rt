@@ -5,16 +5,16 @@ ghost use lib.ListN.{length, take};
 ghost use Rattle.io.specs.Counts.{Counts};
 ghost use Rattle.text.specs.Putting.{Put, PutWithin};
 ghost use Rattle.spec.specs.Kits.{kits};
-ghost use Rattle.report.specs.Listing.{kitLines, listingOf};
+ghost use Rattle.layout.specs.Listing.{kitLines, listingOf};
 ghost use Rattle.report.specs.Turns.{Listable, RoomForSheet};
-use crate::lines::put_end;
-use crate::lines::put_header;
-use crate::lines::put_list;
-use crate::lines::put_more;
-use crate::lines::put_refused;
 use crate::turns::first_kit;
 use crate::turns::next_kit;
-use numbers::REFUSED;
+use answers::REFUSED;
+use layout::put_end;
+use layout::put_header;
+use layout::put_list;
+use layout::put_more;
+use layout::put_refused;
 use sheet::count_open;
 
 const MOST_LISTS: usize = 64;
@@ -67,7 +67,7 @@ fn put_listing<'a>(
     requires { ⌜ 17000 ≤ length (now out) ⌝ }
     ensures { λ r. ⌜ PutWithin 17000 (now (out .entry)) 0 (listingOf (now (maker .entry)) (now (depot .entry)) (now (sheet .entry))) (now (out .exit)) r ⌝ }
 {
-    let said = numbers::of_filled(desk::fill(maker, depot, sheet, filled));
+    let said = answers::of_filled(desk::fill(maker, depot, sheet, filled));
     let first = said.first as usize;
     if said.code == REFUSED {
         return put_refused(out, first, said.second as usize);

@@ -3,7 +3,7 @@ ghost use mathlib.Core.Path.{_≡_};
 ghost use lib.ListN.{length};
 ghost use Rattle.spec.specs.Kits.{kits, kitsAfter};
 ghost use Rattle.kits.specs.Kit.{IsFull};
-ghost use Rattle.lists.specs.Answer.{listedSays};
+ghost use Rattle.answers.specs.Says.{listedSays};
 ghost use Rattle.report.specs.Turns.{saysList, Listable, AtHead};
 use desk::Listed;
 use sheet::store;

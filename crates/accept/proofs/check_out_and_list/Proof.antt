@@ -5,7 +5,7 @@ use mathlib.Core.List.{[], _∷_}
 use borrow.Author.Needs.{needs}
 use Rattle.spec.specs.Refusals.{outCheck, listCheck}
 use Rattle.accept.specs.Form.{formSays}
-use Rattle.accept.proofs.Refused.{chain-refused, chain-passed}
+use Rattle.answers.proofs.Refused.{chain-refused, chain-passed}
 use Rattle.accept.proofs.check_out_and_list.Statement.{statement}
 use Rattle.accept.proofs.check_out_and_list.Tie as tie
 

@@ -6,7 +6,7 @@ use borrow.Author.Needs.{needs}
 use lib.ListN.{length}
 use Rattle.spec.specs.Refusals.{tableChecks, listCheck}
 use Rattle.accept.specs.Form.{formSays}
-use Rattle.accept.proofs.Refused.{chain-refused, chain-passed}
+use Rattle.answers.proofs.Refused.{chain-refused, chain-passed}
 use Rattle.accept.proofs.check_test.Statement.{statement}
 use Rattle.accept.proofs.check_test.Tie as tie
 

@@ -14,7 +14,7 @@ use Rattle.theory.proofs.Form.{form-passed}
 use Rattle.theory.proofs.Filling.{fill-clash}
 use Rattle.theory.proofs.Loading.{loaded-clash, loaded-none, loaded-closed}
 use Rattle.engine.specs.Moves.{Rested}
-use Rattle.fill.specs.declared.Filled.the-variants.{Clash}
+use Rattle.answers.specs.declared.Filled.the-variants.{Clash}
 use Rattle.fill.proofs.Says.{does}
 use Rattle.fill.proofs.Ready.{good-tables, good-cells}
 use borrow.Author.Needs.{needs}

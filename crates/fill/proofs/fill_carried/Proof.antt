@@ -46,9 +46,9 @@ use Rattle.tables.proofs.carry.Symbol as carry-def
 use Rattle.tables.proofs.carry.Symbol.{name as #carry}
 use Rattle.tables.proofs.carry.Met as carry-thm
 use Rattle.fill.specs.Answer.{Fillable, FillDoes}
-use Rattle.fill.specs.declared.Filled.{Filled}
-use Rattle.fill.proofs.Filled as S
-use Rattle.fill.proofs.Filled.Laws as S′
+use Rattle.answers.specs.declared.Filled.{Filled}
+use Rattle.answers.proofs.Filled as S
+use Rattle.answers.proofs.Filled.Laws as S′
 use Rattle.fill.proofs.fill_tables as callee
 use Rattle.fill.proofs.fill_tables.Symbol as callee-def
 use Rattle.fill.proofs.fill_tables.Symbol.{name as #callee}

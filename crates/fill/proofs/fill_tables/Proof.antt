@@ -44,9 +44,9 @@ use Rattle.tables.proofs.Tables.Laws as T′
 use Rattle.tables.proofs.Walks.{answers, silents, buffer-told, buffer-left}
 use Rattle.tables.proofs.Held.{Row, Desc, Law, held-apart}
 use Rattle.fill.specs.Answer.{Fillable, FillDoes}
-use Rattle.fill.specs.declared.Filled.{Filled}
-use Rattle.fill.proofs.Filled as S
-use Rattle.fill.proofs.Filled.Laws as S′
+use Rattle.answers.specs.declared.Filled.{Filled}
+use Rattle.answers.proofs.Filled as S
+use Rattle.answers.proofs.Filled.Laws as S′
 use Rattle.fill.proofs.fill_accepted as callee
 use Rattle.fill.proofs.fill_accepted.Symbol as callee-def
 use Rattle.fill.proofs.fill_accepted.Symbol.{name as #callee}

@@ -42,10 +42,11 @@ use Rattle.tables.proofs.Held.{Row, held-again, carried, Carry}
 use Rattle.tables.proofs.carry.Symbol as carry-def
 use Rattle.tables.proofs.carry.Symbol.{name as #carry}
 use Rattle.tables.proofs.carry.Met as carry-thm
-use Rattle.fits.specs.Answer.{testedSays, judged}
-use Rattle.fits.specs.declared.Tested.{Tested}
-use Rattle.fits.proofs.Tested as S
-use Rattle.fits.proofs.Tested.Laws as S′
+use Rattle.answers.specs.Says.{testedSays}
+use Rattle.fits.specs.Answer.{judged}
+use Rattle.answers.specs.declared.Tested.{Tested}
+use Rattle.answers.proofs.Tested as S
+use Rattle.answers.proofs.Tested.Laws as S′
 use Rattle.fits.proofs.test_tables as callee
 use Rattle.fits.proofs.test_tables.Symbol as callee-def
 use Rattle.fits.proofs.test_tables.Symbol.{name as #callee}

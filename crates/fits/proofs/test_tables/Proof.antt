@@ -49,10 +49,11 @@ use Rattle.tables.proofs.Counts.{Count, counts, counted-apart}
 use Rattle.tables.proofs.count.Symbol as count-def
 use Rattle.tables.proofs.count.Symbol.{name as #count}
 use Rattle.tables.proofs.count.Met as count-thm
-use Rattle.fits.specs.Answer.{testedSays, judged}
-use Rattle.fits.specs.declared.Tested.{Tested}
-use Rattle.fits.proofs.Tested as S
-use Rattle.fits.proofs.Tested.Laws as S′
+use Rattle.answers.specs.Says.{testedSays}
+use Rattle.fits.specs.Answer.{judged}
+use Rattle.answers.specs.declared.Tested.{Tested}
+use Rattle.answers.proofs.Tested as S
+use Rattle.answers.proofs.Tested.Laws as S′
 use Rattle.fits.proofs.test_accepted as callee
 use Rattle.fits.proofs.test_accepted.Symbol as callee-def
 use Rattle.fits.proofs.test_accepted.Symbol.{name as #callee}

@@ -3,7 +3,7 @@
 use mathlib.Core.Path.{_≡_, sym, ap, subst, _∙_}
 use Rattle.spec.specs.Refusals.{passed, judge, orderChecks}
 use Rattle.accept.specs.Form.{formSays}
-use Rattle.lists.specs.declared.Listed.{Listed}
+use Rattle.answers.specs.declared.Listed.{Listed}
 use Rattle.lists.specs.Answer.{FirstDoes}
 use Rattle.lists.proofs.Calls.{listedFor, first-refuses, first-call, first-does}
 use borrow.Author.Needs.{needs}

@@ -3,7 +3,7 @@
 use mathlib.Core.Path.{_≡_, sym, ap, subst, _∙_}
 use Rattle.spec.specs.Refusals.{passed, judge, nextChecks}
 use Rattle.accept.specs.Form.{formSays}
-use Rattle.lists.specs.declared.Listed.{Listed}
+use Rattle.answers.specs.declared.Listed.{Listed}
 use Rattle.lists.specs.Answer.{NextDoes}
 use Rattle.lists.proofs.Calls.{listedFor, next-refuses, next-call, next-does}
 use borrow.Author.Needs.{needs}

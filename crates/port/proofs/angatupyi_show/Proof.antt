@@ -4,7 +4,7 @@ use mathlib.Core.Path.{_≡_, _∙_, ap}
 use native.Mathlib.Omega.{arith}
 use borrow.Author.Needs.{needs}
 use Rattle.spec.specs.Fits.{testSays}
-use Rattle.numbers.specs.Numbering.{threeOf, inOrder}
+use Rattle.answers.specs.Numbering.{threeOf, inOrder}
 use Rattle.port.proofs.Shown.{part-none, part-below, part-maker, part-depot}
 use Rattle.port.proofs.angatupyi_show.Statement.{statement}
 use Rattle.port.proofs.angatupyi_show.Tie as tie

@@ -4,9 +4,9 @@ use native.Mathlib.Omega.{arith}
 use Rattle.spec.specs.Records.{recordCount}
 use Rattle.spec.specs.Kits.{kits}
 use Rattle.text.proofs.Rooms.{room-then, room-within, room-length}
-use Rattle.fill.specs.Answer.{filledSays}
-use Rattle.numbers.proofs.Codes.{code-refused, filled-done}
-use Rattle.report.specs.Listing.{kitLines}
+use Rattle.answers.specs.Says.{filledSays}
+use Rattle.answers.proofs.Codes.{code-refused, filled-done}
+use Rattle.layout.specs.Listing.{kitLines}
 use Rattle.report.proofs.Filling.{passed-boxes, filled-passed, listing-filled, listing-refused}
 use borrow.Author.Needs.{needs}
 use Rattle.report.proofs.listing.put_listing.Statement.{statement}

@@ -3,11 +3,11 @@
 use mathlib.Core.Path.{_≡_, sym, ap, _∙_}
 use mathlib.Core.Bool.{false}
 use borrow.Author.Needs.{needs}
-use Rattle.accept.specs.declared.Refusal.{Refusal}
-use Rattle.accept.specs.Form.{refusalSays}
-use Rattle.accept.proofs.Refused.{numbered}
-use Rattle.lists.specs.declared.Listed.{Listed}
-use Rattle.lists.specs.Answer.{listedSays}
+use Rattle.answers.specs.declared.Refusal.{Refusal}
+use Rattle.answers.specs.Says.{refusalSays}
+use Rattle.answers.proofs.Refused.{numbered}
+use Rattle.answers.specs.declared.Listed.{Listed}
+use Rattle.answers.specs.Says.{listedSays}
 use Rattle.report.specs.Turns.{saysList}
 use Rattle.report.proofs.turns.is_list.Statement.{statement}
 use Rattle.report.proofs.turns.is_list.Tie as tie
