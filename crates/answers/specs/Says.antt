@@ -1,6 +1,7 @@
 -- The paper's number and values for every case of every answer.
 -- Assumes nothing.
-use Rattle.spec.specs.Refusals.{Said, refused, fits, broken, filled, list}
+use mathlib.Core.Bool.{Bool, true, false}
+use Rattle.spec.specs.Refusals.{Said, refused, passed, fits, broken, filled, list}
 use Rattle.answers.specs.declared.Refusal.{Refusal}
 use Rattle.answers.specs.declared.Refusal.the-variants.{Boxes, MakerLength, DepotLength, RecordCount, BadRecord, SheetByte, GivenLength, OutLength, ListByte}
 use Rattle.answers.specs.declared.Tested.{Tested}
@@ -36,3 +37,12 @@ abbrev pub listedSays : Listed → Said
 listedSays lists.List = list
 listedSays lists.None = refused 9 0
 listedSays (lists.Refused why) = refusalSays why
+
+-- whether a list is handed out
+abbrev pub saysList : Said → Bool
+saysList (refused number place) = false
+saysList passed = false
+saysList fits = false
+saysList (broken number) = false
+saysList (filled boxes) = false
+saysList list = true

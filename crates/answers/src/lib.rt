@@ -3,7 +3,7 @@
 // the values: a refusal's number and place, the broken record, the boxes filled; and 0 where there is none.
 ghost use mathlib.Core.Path.{_≡_};
 ghost use mathlib.Core.List.{[], _∷_};
-ghost use Rattle.answers.specs.Says.{refusalSays, testedSays, filledSays, listedSays};
+ghost use Rattle.answers.specs.Says.{refusalSays, testedSays, filledSays, listedSays, saysList};
 ghost use Rattle.answers.specs.Numbering.{threeOf, inOrder};
 
 // What is wrong with the form of a call.
@@ -104,5 +104,16 @@ pub fn of_listed(answer: Listed) -> Numbers
         Listed::List => three(DONE, 0, 0),
         Listed::None => three(REFUSED, 9, 0),
         Listed::Refused(why) => of_refusal(why),
+    }
+}
+
+// Whether a list is handed out.
+pub fn is_list(answer: Listed) -> bool
+    ensures { λ r. ⌜ r ≡ saysList (listedSays answer) ⌝ }
+{
+    match answer {
+        Listed::List => true,
+        Listed::None => false,
+        Listed::Refused(_) => false,
     }
 }

@@ -11,9 +11,9 @@ use Rattle.kits.specs.Kit.{IsFull}
 use Rattle.kits.proofs.Form.{first-passes, next-passes}
 use Rattle.kits.proofs.Says.{first-head, first-empty, next-head, next-empty}
 use Rattle.answers.specs.declared.Listed.{Listed}
-use Rattle.answers.specs.Says.{listedSays}
+use Rattle.answers.specs.Says.{listedSays, saysList}
 use Rattle.lists.specs.Answer.{FirstDoes, NextDoes}
-use Rattle.report.specs.Turns.{saysList, Listable, AtHead}
+use Rattle.report.specs.Turns.{Listable, AtHead}
 
 -- 9 is said where there is no list, and the head is written where there is one
 head-at : (ls : List (List ℕ)) (said : Said) (wrote : List ℕ) → (ls ≡ [] → said ≡ refused 9 0) →

@@ -5,16 +5,7 @@ use mathlib.Core.Bool.{Bool, true, false}
 use mathlib.Core.List.{List, [], _∷_}
 use Prim.Native.Nat.{ℕ, _≤_}
 use lib.ListN.{length}
-use Rattle.spec.specs.Refusals.{Said, refused, passed, fits, broken, filled, list, judge, sheetChecks}
-
--- a list is handed out
-abbrev pub saysList : Said → Bool
-saysList (refused number place) = false
-saysList passed = false
-saysList fits = false
-saysList (broken number) = false
-saysList (filled boxes) = false
-saysList list = true
+use Rattle.spec.specs.Refusals.{passed, judge, sheetChecks}
 
 -- tables and sheet have passed, and the buffer has the sheet's length
 pub record Listable (maker depot sheet kit : List ℕ) : Type 0 where

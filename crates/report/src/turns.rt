@@ -3,20 +3,9 @@ ghost use mathlib.Core.Path.{_≡_};
 ghost use lib.ListN.{length};
 ghost use Rattle.spec.specs.Kits.{kits, kitsAfter};
 ghost use Rattle.kits.specs.Kit.{IsFull};
-ghost use Rattle.answers.specs.Says.{listedSays};
-ghost use Rattle.report.specs.Turns.{saysList, Listable, AtHead};
-use desk::Listed;
+ghost use Rattle.report.specs.Turns.{Listable, AtHead};
+use answers::is_list;
 use sheet::store;
-
-fn is_list(answer: Listed) -> bool
-    ensures { λ r. ⌜ r ≡ saysList (listedSays answer) ⌝ }
-{
-    match answer {
-        Listed::List => true,
-        Listed::None => false,
-        Listed::Refused(_) => false,
-    }
-}
 
 // Writes the first kit, and answers whether there is one.
 pub fn first_kit<'a>(maker: &'a [u8], depot: &'a [u8], sheet: &[u8], kit: &mut [u8]) -> bool

@@ -1,5 +1,4 @@
 pub mod Streaming
 pub mod Lines
-pub mod Keeping
 pub mod Turning
 pub mod Hands

@@ -1,16 +1,14 @@
 // An input of lines, of which some part is at hand: its full lines are answered, as long as there is room for the answers.
-mod rest;
-
 ghost use mathlib.Core.Path.{_≡_};
 ghost use Prim.Native.Nat.{_+_, _-_, _≤_, min};
 ghost use lib.ListN.{length};
 ghost use Rattle.fields.specs.Cuts.{until};
 ghost use Rattle.stream.specs.Input.{Replied, Skipped, Stepped, Finished, RoomForLines, Turned};
 use fields::cut::end_of;
+use front::keep;
 use lines::LINE_FEED;
 use lines::LONGEST;
 use lines::reply;
-use rest::keep;
 
 // A line of more than the longest is cut to one more than that, which is too long all the same.
 const CUT: usize = 200001;

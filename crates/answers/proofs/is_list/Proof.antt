@@ -1,16 +1,14 @@
--- `report::turns::is_list` meets its contract: each answer says a list or a refusal.
+-- `answers::is_list` meets its contract: each answer says a list or a refusal.
 -- Assumes nothing.
 use mathlib.Core.Path.{_≡_, sym, ap, _∙_}
 use mathlib.Core.Bool.{false}
 use borrow.Author.Needs.{needs}
 use Rattle.answers.specs.declared.Refusal.{Refusal}
-use Rattle.answers.specs.Says.{refusalSays}
+use Rattle.answers.specs.Says.{refusalSays, listedSays, saysList}
 use Rattle.answers.proofs.Refused.{numbered}
 use Rattle.answers.specs.declared.Listed.{Listed}
-use Rattle.answers.specs.Says.{listedSays}
-use Rattle.report.specs.Turns.{saysList}
-use Rattle.report.proofs.turns.is_list.Statement.{statement}
-use Rattle.report.proofs.turns.is_list.Tie as tie
+use Rattle.answers.proofs.is_list.Statement.{statement}
+use Rattle.answers.proofs.is_list.Tie as tie
 
 -- a refusal is no list
 refusal-none : (why : Refusal) → false ≡ saysList (refusalSays why)

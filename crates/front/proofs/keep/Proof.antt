@@ -1,13 +1,13 @@
--- `stream::rest::keep` meets its contract.
+-- `front::keep` meets its contract.
 -- Assumes nothing.
 use mathlib.Core.Path.{_≡_, refl}
 use Prim.Native.Nat.{_+_, _-_, _≤_, _<_}
 use native.Mathlib.Omega.{arith}
 use borrow.Author.Needs.{needs}
 use lib.ListN.{length}
-use Rattle.stream.proofs.Keeping.{Kept, kept-none, kept-next}
-use Rattle.stream.proofs.rest.keep.Statement.{statement}
-use Rattle.stream.proofs.rest.keep.Tie as tie
+use Rattle.front.proofs.Keeping.{Kept, kept-none, kept-next}
+use Rattle.front.proofs.keep.Statement.{statement}
+use Rattle.front.proofs.keep.Tie as tie
 
 abbrev Inv-loop : tie.InvT-loop
 Inv-loop input₀ from end size i₀ input i = Kept input₀ from i input × (i ≤ size)
