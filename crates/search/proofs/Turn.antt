@@ -21,11 +21,11 @@ use Rattle.kits.proofs.AtRest.{rest-answer}
 use Rattle.kits.proofs.Branch.{set-sheet, set-past, branch-out, branch-in}
 use Rattle.kits.proofs.Bound.{bound-less, bound-more, bound-same}
 use Rattle.engine.specs.Moves.{Clashes, Rested}
-use Rattle.search.proofs.look.Way.{the-type}
-use Rattle.search.specs.Look.{LowestOpen, Stands, levelOf}
+use Rattle.look.proofs.Way.{the-type}
+use Rattle.look.specs.Look.{LowestOpen, Stands, levelOf}
 use Rattle.search.specs.Ready.{Ready}
-use Rattle.search.specs.declared.look.Way.{Way}
-use Rattle.search.specs.declared.look.Way.the-variants.{Before, Level, Past}
+use Rattle.look.specs.declared.Way.{Way}
+use Rattle.look.specs.declared.Way.the-variants.{Before, Level, Past}
 
 -- a match that passed over `Before` shows that it is not
 pub ahead-of : (w : Way) → OneOf (1 ∷ 2 ∷ []) (tagOf the-type w) → w ≡ Before → ⊥

@@ -1,7 +1,5 @@
 // The search: it branches at the lowest position still open, out before in, with a fill after each choice. Each trial has a sheet
 // of its own.
-pub mod look;
-
 ghost use lib.ListN.{take};
 ghost use Rattle.spec.specs.Records.{rulesIn};
 ghost use Rattle.kits.specs.Order.{AnswerTo};

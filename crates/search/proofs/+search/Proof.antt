@@ -21,9 +21,9 @@ use Rattle.search.proofs.search.Reads as search′
 use Rattle.search.proofs.search.Kinds as search-kinds
 use Rattle.search.proofs.+search.Lts-search as search-lts
 use Rattle.engine.proofs.run.Reads as run-reads
-use Rattle.search.proofs.look.is_level.Reads as is-level-reads
-use Rattle.search.proofs.look.lowest_open.Reads as lowest-open-reads
-use Rattle.search.proofs.look.stand_to.Reads as stand-to-reads
+use Rattle.look.proofs.is_level.Reads as is-level-reads
+use Rattle.look.proofs.lowest_open.Reads as lowest-open-reads
+use Rattle.look.proofs.stand_to.Reads as stand-to-reads
 use Rattle.sheet.proofs.Sheet.settled.Reads as settled-reads
 use Rattle.search.proofs.+search.{statement}
 use Rattle.search.proofs.+search.Tie.{close}

@@ -1,4 +1,4 @@
--- `search::look::compare` meets its contract: at every box passed the two are the same.
+-- `look::compare` meets its contract: at every box passed the two are the same.
 -- Assumes nothing.
 use mathlib.Core.Path.{_≡_, refl, sym}
 use mathlib.Core.Logic.{inr}
@@ -8,8 +8,8 @@ use borrow.Author.Needs.{needs}
 use borrow.Author.Count.{below-none, below-more}
 use lib.ListN.{getD}
 use Rattle.lemmas.proofs.Reading.{getD-default}
-use Rattle.search.proofs.look.compare.Statement.{statement}
-use Rattle.search.proofs.look.compare.Tie as tie
+use Rattle.look.proofs.compare.Statement.{statement}
+use Rattle.look.proofs.compare.Tie as tie
 
 abbrev Inv-loop : tie.InvT-loop
 Inv-loop states given b c₀ c = (c ≤ b) × ((i : ℕ) → i < c → getD states i 2 ≡ getD given i 2)

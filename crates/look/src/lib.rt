@@ -3,7 +3,7 @@ ghost use mathlib.Core.Path.{_≡_};
 ghost use mathlib.Core.Bool.{true};
 ghost use Prim.Native.Nat.{_≤_};
 ghost use lib.ListN.{length};
-ghost use Rattle.search.specs.Look.{LowestOpen, Stands, levelOf};
+ghost use Rattle.look.specs.Look.{LowestOpen, Stands, levelOf};
 
 const OPEN: u8 = 2;
 

@@ -1,11 +1,11 @@
--- `search::look::stand_to` meets its contract.
+-- `look::stand_to` meets its contract.
 -- Assumes nothing.
 use mathlib.Core.Path.{sym, subst}
 use mathlib.Core.Logic.{inl}
 use mathlib.Core.Bool.{Bool}
-use Rattle.search.specs.Look.{Stands}
-use Rattle.search.proofs.look.stand_to.Statement.{statement}
-use Rattle.search.proofs.look.stand_to.Tie as tie
+use Rattle.look.specs.Look.{Stands}
+use Rattle.look.proofs.stand_to.Statement.{statement}
+use Rattle.look.proofs.stand_to.Tie as tie
 
 compare-requires : tie.Need-compare-requires
 compare-requires c κs = (c .before .before .before .pre .0, c .before .before .before .pre .1 (c .if1 .taken))

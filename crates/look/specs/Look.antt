@@ -7,8 +7,8 @@ use mathlib.Core.List.{List}
 use Prim.Native.Nat.{ℕ, _≤_, _<_}
 use lib.ListN.{getD}
 use Rattle.kits.specs.Order.{LessAt}
-use Rattle.search.specs.declared.look.Way.{Way}
-use Rattle.search.specs.declared.look.Way.the-variants.{Before, Level, Past}
+use Rattle.look.specs.declared.Way.{Way}
+use Rattle.look.specs.declared.Way.the-variants.{Before, Level, Past}
 
 -- no box below b is open, and box b is, unless it is n
 pub record LowestOpen (t : List ℕ) (n b : ℕ) : Type 0 where
