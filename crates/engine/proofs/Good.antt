@@ -22,13 +22,13 @@ bad-more n m q h e = ap reasons (fewer ∙ sym none) ∙ e
     reasons : Bool → Bool
     reasons past =
         noKind (kindOf (q .kind))
-        || not (eqb (q .one) 0)
+        || not (eqb (q .byte1) 0)
         || past
         || (lacksZ (kindOf (q .kind)) && not (eqb (q .z) 65535))
         || twoEqual (boxesOf q)
 
     none : any (leb n) (boxesOf q) ≡ false
-    none = or-false-right (noKind (kindOf (q .kind)) || not (eqb (q .one) 0)) _ (or-false-left _ _ (or-false-left _ _ e))
+    none = or-false-right (noKind (kindOf (q .kind)) || not (eqb (q .byte1) 0)) _ (or-false-left _ _ (or-false-left _ _ e))
 
     fewer : any (leb m) (boxesOf q) ≡ false
     fewer =

@@ -3,13 +3,13 @@
 use mathlib.Core.Path.{_≡_, refl, sym, ap, ap₂, subst, _∙_}
 use mathlib.Core.List.{List, [], _∷_, _++_, append-assoc, List·Memᴰ, List·Memᴰ·head, Memᴰ·append-right}
 use Prim.Native.Nat.{ℕ, suc}
-use native.Mathlib.Omega.{arith}
 use lib.ListN.{length}
 use Rattle.lemmas.specs.Lists.{those}
 use Rattle.lemmas.specs.Ascends.{Ascends}
 use Rattle.lemmas.proofs.Ascending.{ascends-after}
-use Rattle.spec.specs.Refusals.{refused, passed, list, judge, sheetChecks}
-use Rattle.spec.specs.Kits.{before, kits, kitsAfter}
+use Rattle.spec.specs.Refusals.{reason, refused, passed, judge, sheetChecks}
+use Rattle.spec.specs.Kits.{before, handedOut, kits, kitsAfter}
+use Rattle.spec.proofs.Judge.{refused-answered}
 use Rattle.kits.specs.Kit.{IsFull}
 use Rattle.kits.specs.Runs.{Nexts, done, handed, Asked, none, first}
 use Rattle.kits.proofs.Order.{before-irrefl, before-asym}
@@ -17,8 +17,8 @@ use Rattle.kits.proofs.Kits.{kits-in-order}
 use Rattle.kits.proofs.Says.{first-head, first-empty, next-head, next-empty}
 use Rattle.kits.proofs.Form.{first-passes, next-passes}
 
-nine-list : refused 9 0 ≡ list → ⊥
-nine-list e = let z : _≡_ {A = ℕ} 0 1 = cc in omega arith
+nine-list : refused (reason 9 0) ≡ handedOut → ⊥
+nine-list = refused-answered
 
 -- the lists handed out are decided
 module _ {maker depot sheet : List ℕ} {lent : ℕ → List ℕ} where

@@ -4,20 +4,20 @@
 use mathlib.Core.Path.{_≡_}
 use mathlib.Core.List.{List, [], _∷_}
 use Prim.Native.Nat.{ℕ, suc}
-use Rattle.spec.specs.Refusals.{refused, list}
-use Rattle.spec.specs.Kits.{firstSays, firstWrites, nextSays, nextWrites}
+use Rattle.spec.specs.Refusals.{reason, refused}
+use Rattle.spec.specs.Kits.{handedOut, firstSays, firstWrites, nextSays, nextWrites}
 
 -- from call i on, which asks Next after the given list: the lists handed out
 pub data Nexts (maker depot sheet : List ℕ) (lent : ℕ → List ℕ) : ℕ → List ℕ → List (List ℕ) → Type 0 where
-  done : {i : ℕ} {given : List ℕ} → nextSays maker depot sheet given (lent i) ≡ refused 9 0 →
+  done : {i : ℕ} {given : List ℕ} → nextSays maker depot sheet given (lent i) ≡ refused (reason 9 0) →
       Nexts maker depot sheet lent i given []
   handed : {i : ℕ} {given l : List ℕ} {ls : List (List ℕ)} →
-      nextSays maker depot sheet given (lent i) ≡ list → nextWrites maker depot sheet given (lent i) ≡ l →
+      nextSays maker depot sheet given (lent i) ≡ handedOut → nextWrites maker depot sheet given (lent i) ≡ l →
       Nexts maker depot sheet lent (suc i) l ls → Nexts maker depot sheet lent i given (l ∷ ls)
 
 -- the whole run: the lists handed out
 pub data Asked (maker depot sheet : List ℕ) (lent : ℕ → List ℕ) : List (List ℕ) → Type 0 where
-  none : firstSays maker depot sheet (lent 0) ≡ refused 9 0 → Asked maker depot sheet lent []
+  none : firstSays maker depot sheet (lent 0) ≡ refused (reason 9 0) → Asked maker depot sheet lent []
   first : {l : List ℕ} {ls : List (List ℕ)} →
-      firstSays maker depot sheet (lent 0) ≡ list → firstWrites maker depot sheet (lent 0) ≡ l →
+      firstSays maker depot sheet (lent 0) ≡ handedOut → firstWrites maker depot sheet (lent 0) ≡ l →
       Nexts maker depot sheet lent 1 l ls → Asked maker depot sheet lent (l ∷ ls)

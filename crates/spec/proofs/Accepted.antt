@@ -1,17 +1,20 @@
--- What is known once the checks of the tables have passed.
+-- What is known once checks of form have passed, each fact by its name.
 -- Assumes nothing.
-use mathlib.Core.Path.{_≡_, sym, _∙_}
+use mathlib.Core.Path.{_≡_, refl, sym, _∙_}
 use mathlib.Core.Bool.{false}
 use mathlib.Core.List.{List, [], _∷_}
 use Prim.Native.Nat.{ℕ, _≤_, _<_, _%_}
+use native.Mathlib.Omega.{arith}
 use borrow.Author.Tests.{ltb-false, eqb-true, not-false}
 use lib.ListN.{length, getD}
 use Rattle.lemmas.proofs.Lowest.{lowest-below}
+use Rattle.lemmas.proofs.Reading.{getD-each}
 use Rattle.spec.specs.Records.{bad, recordAt, recordCount}
-use Rattle.spec.specs.Refusals.{passed, judge, tableChecks, boxesCheck, makerCheck, depotCheck, countCheck, recordCheck, sheetCheck, listCheck}
+use Rattle.spec.specs.Refusals.{passed, Check, judge, tableChecks, sheetChecks, orderChecks, nextChecks, boxesCheck, makerCheck, depotCheck, countCheck, recordCheck, sheetCheck, givenCheck, outCheck, listCheck}
 use Rattle.spec.specs.Fits.{testChecks}
-use Rattle.spec.proofs.Judge.{judge-passes, judge-append, judge-reached, refused-passed}
+use Rattle.spec.proofs.Judge.{Passes, judge-passes, judge-left, judge-right}
 
+-- the tables are accepted, with n boxes
 pub record Accepted (n : ℕ) (maker depot : List ℕ) : Type 0 where
   pub boxes : n ≤ 256
   pub makers : length maker % 8 ≡ 0
@@ -19,27 +22,82 @@ pub record Accepted (n : ℕ) (maker depot : List ℕ) : Type 0 where
   pub count : recordCount maker depot ≤ 1024
   pub good : (r : ℕ) → r < recordCount maker depot → bad n (recordAt maker depot r) ≡ false
 
+-- and a sheet of n boxes
+pub record AcceptedSheet (n : ℕ) (maker depot sheet : List ℕ) : Type 0 where
+  pub tables : Accepted n maker depot
+  pub sheet-length : length sheet ≡ n
+  pub sheet-bytes : (b : ℕ) → getD sheet b 2 ≤ 2
+
+-- Fill's and First's call
+pub record AcceptedOrder (maker depot sheet out : List ℕ) : Type 0 where
+  pub order : AcceptedSheet (length sheet) maker depot sheet
+  pub out-length : length out ≡ length sheet
+
+-- Next's
+pub record AcceptedNext (maker depot sheet given out : List ℕ) : Type 0 where
+  pub order : AcceptedSheet (length sheet) maker depot sheet
+  pub given-length : length given ≡ length sheet
+  pub out-length : length out ≡ length sheet
+
 pub tables-accepted : (n : ℕ) (maker depot : List ℕ) → judge (tableChecks n maker depot) passed ≡ passed → Accepted n maker depot
 unfolding boxesCheck makerCheck depotCheck countCheck recordCheck
-tables-accepted n maker depot e =
-    let p = judge-passes (tableChecks n maker depot) e in
-    record {
-      boxes = ltb-false _ _ (p .0);
-      makers = eqb-true _ _ (not-false _ (p .1 .0));
-      depots = eqb-true _ _ (not-false _ (p .1 .1 .0));
-      count = ltb-false _ _ (p .1 .1 .1 .0);
-      good = λ r l. lowest-below _ _ r (ltb-false _ _ (p .1 .1 .1 .1 .0)) l;
-    }
+tables-accepted n maker depot e = named (judge-passes (tableChecks n maker depot) e)
+  where
+    named : Passes (tableChecks n maker depot) → Accepted n maker depot
+    named (boxes, (makers, (depots, (count, (records, _))))) =
+        record {
+          boxes = ltb-false _ _ boxes;
+          makers = eqb-true _ _ (not-false _ makers);
+          depots = eqb-true _ _ (not-false _ depots);
+          count = ltb-false _ _ count;
+          good = λ r l. lowest-below _ _ r (ltb-false _ _ records) l;
+        }
 
 -- where Test's checks have passed, the tables' have
 pub test-accepted : (maker depot l : List ℕ) → judge (testChecks maker depot l) passed ≡ passed → Accepted (length l) maker depot
 test-accepted maker depot l e =
-    tables-accepted (length l) maker depot
-    (judge-reached (tableChecks (length l) maker depot) _ (λ number place. refused-passed)
-    (sym (judge-append (tableChecks (length l) maker depot) (listCheck l ∷ []) passed) ∙ e)
-    .0)
+    tables-accepted (length l) maker depot (judge-left (tableChecks (length l) maker depot) (listCheck l ∷ []) e)
 
--- every sheet byte is at most 2
-pub sheet-accepted : (sheet : List ℕ) → judge (sheetCheck sheet ∷ []) passed ≡ passed → (b : ℕ) → b < length sheet → getD sheet b 0 ≤ 2
+pub sheet-accepted : (maker depot sheet : List ℕ) → judge (sheetChecks maker depot sheet) passed ≡ passed →
+    AcceptedSheet (length sheet) maker depot sheet
 unfolding sheetCheck
-sheet-accepted sheet e b l = ltb-false _ _ (lowest-below _ _ b (ltb-false _ _ (judge-passes (sheetCheck sheet ∷ []) e .0)) l)
+sheet-accepted maker depot sheet e =
+    record {
+      tables = tables-accepted (length sheet) maker depot (judge-left (tableChecks (length sheet) maker depot) (sheetCheck sheet ∷ []) e);
+      sheet-length = refl;
+      sheet-bytes = getD-each (λ c. c ≤ 2) sheet 0 2 small (omega arith);
+    }
+  where
+    bytes : judge (sheetCheck sheet ∷ []) passed ≡ passed
+    bytes = judge-right (tableChecks (length sheet) maker depot) (sheetCheck sheet ∷ []) e
+
+    small : (b : ℕ) → b < length sheet → getD sheet b 0 ≤ 2
+    small b l = ltb-false _ _ (lowest-below _ _ b (ltb-false _ _ (judge-passes (sheetCheck sheet ∷ []) bytes .0)) l)
+
+pub order-accepted : (maker depot sheet out : List ℕ) → judge (orderChecks maker depot sheet out) passed ≡ passed →
+    AcceptedOrder maker depot sheet out
+unfolding outCheck
+order-accepted maker depot sheet out e =
+    record {
+      order = sheet-accepted maker depot sheet (judge-left (sheetChecks maker depot sheet) (outCheck (length sheet) out ∷ []) e);
+      out-length =
+          eqb-true _ _
+          (not-false _
+          (judge-passes (outCheck (length sheet) out ∷ []) (judge-right (sheetChecks maker depot sheet) (outCheck (length sheet) out ∷ []) e) .0));
+    }
+
+pub next-accepted : (maker depot sheet given out : List ℕ) → judge (nextChecks maker depot sheet given out) passed ≡ passed →
+    AcceptedNext maker depot sheet given out
+unfolding givenCheck outCheck
+next-accepted maker depot sheet given out e = named (judge-passes lists (judge-right (sheetChecks maker depot sheet) lists e))
+  where
+    lists : List Check
+    lists = givenCheck (length sheet) given ∷ outCheck (length sheet) out ∷ listCheck given ∷ []
+
+    named : Passes lists → AcceptedNext maker depot sheet given out
+    named (same-given, (same-out, _)) =
+        record {
+          order = sheet-accepted maker depot sheet (judge-left (sheetChecks maker depot sheet) lists e);
+          given-length = eqb-true _ _ (not-false _ same-given);
+          out-length = eqb-true _ _ (not-false _ same-out);
+        }

@@ -8,14 +8,14 @@ use lib.ListN.{replicate}
 use Rattle.lemmas.specs.Lowest.{lowest}
 use Rattle.spec.specs.Kinds.{kindOf, placesOf}
 use Rattle.spec.specs.Records.{Rec, recFrom, recordAt, boxAt, boxesOf, noKind, lacksZ, twoEqual, bad, recordCount}
-use Rattle.spec.specs.Fits.{testSays}
-use Rattle.spec.specs.Fill.{fillSays}
+use Rattle.spec.specs.Fits.{testJudges, testSays}
+use Rattle.spec.specs.Fill.{fillJudges, fillSays}
 use Rattle.spec.specs.Kits.{nextSays}
-use Rattle.spec.specs.Refusals.{refused, Check, boxesCheck, makerCheck, depotCheck, countCheck, recordCheck, sheetCheck, givenCheck, outCheck, listCheck}
+use Rattle.spec.specs.Refusals.{Said, reason, refused, answered, passed, Check, boxesCheck, makerCheck, depotCheck, countCheck, recordCheck, sheetCheck, givenCheck, outCheck, listCheck}
 
 -- a record of kind 3 but for one field
-abbrev andRec : (kind one x y z : ℕ) → Rec
-andRec kind one x y z = record { kind = kind; one = one; x = x; y = y; z = z }
+abbrev andRec : (kind byte1 x y z : ℕ) → Rec
+andRec kind byte1 x y z = record { kind = kind; byte1 = byte1; x = x; y = y; z = z }
 
 -- with 3 boxes: kinds 0 and 5, byte 1, each box past the end, z missing and z that belongs to none, and each pair of boxes alike
 pub bad-limits :
@@ -69,33 +69,38 @@ pub check-limits :
 unfolding boxesCheck makerCheck depotCheck countCheck sheetCheck givenCheck outCheck listCheck recordCount lowest
 check-limits = refl
 
+-- the refusal alone, whatever the operation's answer
+abbrev form : {A : Type 0} → Said A → Said (Unit {0})
+form (refused why) = refused why
+form (answered answer) = passed
+
 -- where several checks apply the first is given: Test with too many boxes and a cut table; both tables cut; the depot's cut and a
 -- bad record; a bad record in the depot and a list byte; a list byte; Fill with a sheet byte and the out buffer; with the out
 -- buffer alone; Next with both lengths; with the out buffer and a list byte; with a list byte alone
 pub order-limits :
-    testSays (3 ∷ []) (3 ∷ []) (replicate 257 2)
-    ∷ testSays (3 ∷ []) (3 ∷ []) (2 ∷ [])
-    ∷ testSays (replicate 8 0) (3 ∷ []) (2 ∷ [])
-    ∷ testSays (1 ∷ 0 ∷ 0 ∷ 0 ∷ 1 ∷ 0 ∷ 255 ∷ 255 ∷ []) (replicate 8 0) (0 ∷ 2 ∷ [])
-    ∷ testSays [] [] (0 ∷ 2 ∷ [])
-    ∷ fillSays [] [] (0 ∷ 3 ∷ []) []
-    ∷ fillSays [] [] (0 ∷ 2 ∷ []) []
-    ∷ nextSays [] [] (0 ∷ 2 ∷ []) [] []
-    ∷ nextSays [] [] (0 ∷ 2 ∷ []) (0 ∷ 2 ∷ []) []
-    ∷ nextSays [] [] (0 ∷ 2 ∷ []) (0 ∷ 2 ∷ []) (0 ∷ 0 ∷ [])
+    form (testSays (3 ∷ []) (3 ∷ []) (replicate 257 2))
+    ∷ form (testSays (3 ∷ []) (3 ∷ []) (2 ∷ []))
+    ∷ form (testSays (replicate 8 0) (3 ∷ []) (2 ∷ []))
+    ∷ form (testSays (1 ∷ 0 ∷ 0 ∷ 0 ∷ 1 ∷ 0 ∷ 255 ∷ 255 ∷ []) (replicate 8 0) (0 ∷ 2 ∷ []))
+    ∷ form (testSays [] [] (0 ∷ 2 ∷ []))
+    ∷ form (fillSays [] [] (0 ∷ 3 ∷ []) [])
+    ∷ form (fillSays [] [] (0 ∷ 2 ∷ []) [])
+    ∷ form (nextSays [] [] (0 ∷ 2 ∷ []) [] [])
+    ∷ form (nextSays [] [] (0 ∷ 2 ∷ []) (0 ∷ 2 ∷ []) [])
+    ∷ form (nextSays [] [] (0 ∷ 2 ∷ []) (0 ∷ 2 ∷ []) (0 ∷ 0 ∷ []))
     ∷ []
-    ≡ refused 1 0
-    ∷ refused 2 0
-    ∷ refused 2 1
-    ∷ refused 3 1
-    ∷ refused 6 1
-    ∷ refused 4 1
-    ∷ refused 5 1
-    ∷ refused 5 0
-    ∷ refused 5 1
-    ∷ refused 6 1
+    ≡ refused (reason 1 0)
+    ∷ refused (reason 2 0)
+    ∷ refused (reason 2 1)
+    ∷ refused (reason 3 1)
+    ∷ refused (reason 6 1)
+    ∷ refused (reason 4 1)
+    ∷ refused (reason 5 1)
+    ∷ refused (reason 5 0)
+    ∷ refused (reason 5 1)
+    ∷ refused (reason 6 1)
     ∷ []
 unfolding boxesCheck makerCheck depotCheck countCheck recordCheck sheetCheck givenCheck outCheck listCheck recordCount lowest
     bad kindOf placesOf boxAt boxesOf noKind lacksZ twoEqual recFrom recordAt
-    testSays fillSays nextSays
+    testJudges testSays fillJudges fillSays nextSays
 order-limits = refl

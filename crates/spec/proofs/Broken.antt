@@ -9,18 +9,15 @@ use borrow.Author.Tests.{ltb-true, lt-ltb, le-ltb}
 use lib.Dec.{ltb}
 use lib.ListN.{length}
 use Rattle.spec.specs.Records.{recordCount}
-use Rattle.spec.specs.Refusals.{fits, broken}
-use Rattle.spec.specs.Fits.{firstBroken, tested, testChecks, testSays, recordPart, partFor, showsPart}
-use Rattle.spec.proofs.Judge.{Answers, judge-reached}
+use Rattle.spec.specs.Refusals.{answered}
+use Rattle.spec.specs.Fits.{fits, broken, firstBroken, testChecks, testJudges, testSays, recordPart, partFor, showsPart}
+use Rattle.spec.proofs.Judge.{judge-reached}
 use Rattle.spec.proofs.Accepted.{Accepted, test-accepted}
 
-broken-answers : (number : ℕ) → Answers (broken number)
-broken-answers number n p e = let z : _≡_ {A = ℕ} 0 1 = cc in omega arith
-
-tested-broken : (count first number : ℕ) → tested count first ≡ broken number → (first ≡ number) × (first < count)
+tested-broken : (count first number : ℕ) → answered (cond (ltb first count) (broken first) fits) ≡ answered (broken number) → (first ≡ number) × (first < count)
 tested-broken count first number e = go (ltb first count) refl e
   where
-    go : (t : Bool) → ltb first count ≡ t → cond t (broken first) fits ≡ broken number → (first ≡ number) × (first < count)
+    go : (t : Bool) → ltb first count ≡ t → answered (cond t (broken first) fits) ≡ answered (broken number) → (first ≡ number) × (first < count)
     go true known e = (cc, ltb-true first count known)
     go false known e = let z : _≡_ {A = ℕ} 0 1 = cc in absurd (omega arith)
 
@@ -28,10 +25,10 @@ pub record BrokenIs (maker depot l : List ℕ) (number : ℕ) : Type 0 where
   pub accepted : Accepted (length l) maker depot
   pub below : number < recordCount maker depot
 
-pub broken-is : (maker depot l : List ℕ) (number : ℕ) → broken number ≡ testSays maker depot l → BrokenIs maker depot l number
-unfolding testSays
+pub broken-is : (maker depot l : List ℕ) (number : ℕ) → answered (broken number) ≡ testSays maker depot l → BrokenIs maker depot l number
+unfolding testSays testJudges
 broken-is maker depot l number e =
-    let reached = judge-reached (testChecks maker depot l) _ (broken-answers number) (sym e) in
+    let reached = judge-reached (testChecks maker depot l) _ (sym e) in
     let first = tested-broken (recordCount maker depot) (firstBroken maker depot l) number (reached .1) in
     record { accepted = test-accepted maker depot l (reached .0); below = omega (arith, first .0, first .1) }
 
@@ -46,7 +43,7 @@ module _ (maker : List ℕ) (number : ℕ) where
   part-depot h = rw (le-ltb _ _ h)
 
 -- where the first broken record is shown
-module _ (maker depot l : List ℕ) (number : ℕ) (e : broken number ≡ testSays maker depot l) where
+module _ (maker depot l : List ℕ) (number : ℕ) (e : answered (broken number) ≡ testSays maker depot l) where
   pub shows-maker : 8 * number < length maker → showsPart maker depot l ≡ record { depots = false; start = 8 * number; size = 8 }
   unfolding showsPart
   shows-maker h = ap (partFor maker) (sym e) ∙ part-maker maker number h

@@ -3,19 +3,23 @@
 use mathlib.Core.Path.{_≡_, ap}
 use mathlib.Core.List.{List}
 use Prim.Native.Nat.{ℕ}
-use Rattle.spec.specs.Refusals.{Said, refused}
-use Rattle.spec.specs.Fill.{closureOf, written, fillSays, fillWrites}
+use Rattle.spec.specs.Refusals.{Refusal, Said, refused, written}
+use Rattle.spec.specs.Fill.{closureOf, fillSays, fillWrites}
 use Rattle.spec.specs.Kits.{kits, kitsAfter, headOf, firstSays, firstWrites, nextSays, nextWrites}
 
-module _ (maker depot sheet out : List ℕ) (number place : ℕ) where
-  pub fill-kept : fillSays maker depot sheet out ≡ refused number place → fillWrites maker depot sheet out ≡ out
+-- whatever the operation
+pub kept : {A : Type 0} {said : Said A} {why : Refusal} (new old : List ℕ) → said ≡ refused why → written said new old ≡ old
+kept {A} new old e = ap (λ (s : Said A). written s new old) e
+
+module _ (maker depot sheet out : List ℕ) (why : Refusal) where
+  pub fill-kept : fillSays maker depot sheet out ≡ refused why → fillWrites maker depot sheet out ≡ out
   unfolding fillWrites
-  fill-kept e = ap (λ (a : Said). written a (closureOf maker depot sheet) out) e
+  fill-kept = kept (closureOf maker depot sheet) out
 
-  pub first-kept : firstSays maker depot sheet out ≡ refused number place → firstWrites maker depot sheet out ≡ out
+  pub first-kept : firstSays maker depot sheet out ≡ refused why → firstWrites maker depot sheet out ≡ out
   unfolding firstWrites
-  first-kept e = ap (λ (a : Said). written a (headOf (kits maker depot sheet)) out) e
+  first-kept = kept (headOf (kits maker depot sheet)) out
 
-  pub next-kept : (given : List ℕ) → nextSays maker depot sheet given out ≡ refused number place → nextWrites maker depot sheet given out ≡ out
+  pub next-kept : (given : List ℕ) → nextSays maker depot sheet given out ≡ refused why → nextWrites maker depot sheet given out ≡ out
   unfolding nextWrites
-  next-kept given e = ap (λ (a : Said). written a (headOf (kitsAfter maker depot sheet given)) out) e
+  next-kept given = kept (headOf (kitsAfter maker depot sheet given)) out

@@ -58,7 +58,7 @@ good-named n q e p m =
     (false-T (leb n (boxAt q p)) (λ t. subst T none (any-of (leb n) (map-member (boxAt q) m) t)))
   where
     none : any (leb n) (boxesOf q) ≡ false
-    none = or-false-right (noKind (kindOf (q .kind)) || not (eqb (q .one) 0)) _ (or-false-left _ _ (or-false-left _ _ e))
+    none = or-false-right (noKind (kindOf (q .kind)) || not (eqb (q .byte1) 0)) _ (or-false-left _ _ (or-false-left _ _ e))
 
 -- no record is bad
 abbrev pub Good : ℕ → List Rec → Type 0

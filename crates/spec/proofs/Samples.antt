@@ -7,13 +7,13 @@ use Prim.Native.Nat.{ℕ}
 use Rattle.lemmas.specs.Lowest.{lowest}
 use Rattle.spec.specs.Kinds.{kindOf, placesOf, meaning}
 use Rattle.spec.specs.Rules.{rulesOf}
-use Rattle.spec.specs.Records.{recFrom, recordAt, recordCount, rulesIn, boxAt, boxesOf, noKind, lacksZ, twoEqual, bad}
+use Rattle.spec.specs.Records.{recFrom, recordAt, recordCount, isRule, rulesIn, boxAt, boxesOf, noKind, lacksZ, twoEqual, bad}
 use Rattle.spec.specs.Facts.{holds}
 use Rattle.spec.specs.Rounds.{has, names, gives, follows, code, round, closed}
-use Rattle.spec.specs.Refusals.{Said, refused, broken, filled, list, boxesCheck, makerCheck, depotCheck, countCheck, recordCheck, sheetCheck, givenCheck, outCheck, listCheck}
-use Rattle.spec.specs.Fits.{isIn, breaks, firstBroken, testSays, Part, recordPart, showsPart}
-use Rattle.spec.specs.Fill.{closureOf, clashes, boxesFilled, openCount, clashCheck, brokenCheck, fillSays, fillWrites}
-use Rattle.spec.specs.Kits.{keeps, fitsAll, kits, kitsAfter, isNone, headOf, noneCheck, firstSays, firstWrites, nextSays, nextWrites}
+use Rattle.spec.specs.Refusals.{Said, reason, refused, answered, boxesCheck, makerCheck, depotCheck, countCheck, recordCheck, sheetCheck, givenCheck, outCheck, listCheck}
+use Rattle.spec.specs.Fits.{isIn, breaks, isBroken, firstBroken, Verdict, broken, testJudges, testSays, Part, recordPart, showsPart}
+use Rattle.spec.specs.Fill.{closureOf, clashes, boxesFilled, openCount, clashCheck, brokenCheck, fillJudges, fillSays, fillWrites}
+use Rattle.spec.specs.Kits.{keeps, fitsAll, kits, kitsAfter, isNone, headOf, noneCheck, handedOut, firstSays, firstWrites, nextSays, nextWrites}
 use Rattle.spec.specs.OneRule.{recordOf, statesOf, packed, outcome}
 
 -- a call of an operation on two tables, the list of all kits, or an entry of the one-rule table
@@ -27,16 +27,17 @@ pub data Call : Type 0 where
 
 -- what is said, and the list written; the part shown; the kits; the number held
 pub data Answer : Type 0 where
-  says : Said → List ℕ → Answer
-  shows : Said → Part → Answer
+  fills : Said ℕ → List ℕ → Answer
+  shows : Said Verdict → Part → Answer
+  hands : Said (Unit {0}) → List ℕ → Answer
   lists : List (List ℕ) → Answer
   number : ℕ → Answer
 
 abbrev answer : List ℕ → List ℕ → Call → Answer
-answer m d (fill s) = says (fillSays m d s s) (fillWrites m d s s)
+answer m d (fill s) = fills (fillSays m d s s) (fillWrites m d s s)
 answer m d (test l) = shows (testSays m d l) (showsPart m d l)
-answer m d (first s) = says (firstSays m d s s) (firstWrites m d s s)
-answer m d (next s g) = says (nextSays m d s g s) (nextWrites m d s g s)
+answer m d (first s) = hands (firstSays m d s s) (firstWrites m d s s)
+answer m d (next s g) = hands (nextSays m d s g s) (nextWrites m d s g s)
 answer m d (all s) = lists (kits m d s)
 answer m d (entry k) = number (outcome k)
 
@@ -76,28 +77,28 @@ onNone c a = record { maker = []; depot = []; call = c; paper = a }
 
 pub table : List Sample
 table =
-    onA (fill (1 ∷ 2 ∷ 2 ∷ [])) (says (filled 2) (1 ∷ 1 ∷ 1 ∷ []))
-    ∷ onA (fill (2 ∷ 0 ∷ 2 ∷ [])) (says (filled 2) (0 ∷ 0 ∷ 0 ∷ []))
-    ∷ onA (fill (2 ∷ 2 ∷ 2 ∷ [])) (says (filled 0) (2 ∷ 2 ∷ 2 ∷ []))
-    ∷ onA (fill (1 ∷ 0 ∷ 2 ∷ [])) (says (refused 7 0) (1 ∷ 0 ∷ 2 ∷ []))
+    onA (fill (1 ∷ 2 ∷ 2 ∷ [])) (fills (answered 2) (1 ∷ 1 ∷ 1 ∷ []))
+    ∷ onA (fill (2 ∷ 0 ∷ 2 ∷ [])) (fills (answered 2) (0 ∷ 0 ∷ 0 ∷ []))
+    ∷ onA (fill (2 ∷ 2 ∷ 2 ∷ [])) (fills (answered 0) (2 ∷ 2 ∷ 2 ∷ []))
+    ∷ onA (fill (1 ∷ 0 ∷ 2 ∷ [])) (fills (refused (reason 7 0)) (1 ∷ 0 ∷ 2 ∷ []))
     ∷ onA (all (2 ∷ 2 ∷ 2 ∷ [])) (lists ((0 ∷ 0 ∷ 0 ∷ []) ∷ (0 ∷ 1 ∷ 0 ∷ []) ∷ (1 ∷ 1 ∷ 1 ∷ []) ∷ []))
-    ∷ onA (first (2 ∷ 2 ∷ 2 ∷ [])) (says list (0 ∷ 0 ∷ 0 ∷ []))
-    ∷ onA (next (2 ∷ 2 ∷ 2 ∷ []) (0 ∷ 1 ∷ 1 ∷ [])) (says list (1 ∷ 1 ∷ 1 ∷ []))
-    ∷ onA (next (2 ∷ 2 ∷ 2 ∷ []) (1 ∷ 1 ∷ 1 ∷ [])) (says (refused 9 0) (2 ∷ 2 ∷ 2 ∷ []))
-    ∷ onA (test (1 ∷ 0 ∷ 0 ∷ [])) (shows (broken 1) (record { depots = true; start = 0; size = 8 }))
-    ∷ onA (test (1 ∷ 1 ∷ 0 ∷ [])) (shows (broken 0) (record { depots = false; start = 0; size = 8 }))
-    ∷ onP (fill (2 ∷ 2 ∷ [])) (says (filled 0) (2 ∷ 2 ∷ []))
-    ∷ onP (first (2 ∷ 2 ∷ [])) (says (refused 9 0) (2 ∷ 2 ∷ []))
+    ∷ onA (first (2 ∷ 2 ∷ 2 ∷ [])) (hands handedOut (0 ∷ 0 ∷ 0 ∷ []))
+    ∷ onA (next (2 ∷ 2 ∷ 2 ∷ []) (0 ∷ 1 ∷ 1 ∷ [])) (hands handedOut (1 ∷ 1 ∷ 1 ∷ []))
+    ∷ onA (next (2 ∷ 2 ∷ 2 ∷ []) (1 ∷ 1 ∷ 1 ∷ [])) (hands (refused (reason 9 0)) (2 ∷ 2 ∷ 2 ∷ []))
+    ∷ onA (test (1 ∷ 0 ∷ 0 ∷ [])) (shows (answered (broken 1)) (record { depots = true; start = 0; size = 8 }))
+    ∷ onA (test (1 ∷ 1 ∷ 0 ∷ [])) (shows (answered (broken 0)) (record { depots = false; start = 0; size = 8 }))
+    ∷ onP (fill (2 ∷ 2 ∷ [])) (fills (answered 0) (2 ∷ 2 ∷ []))
+    ∷ onP (first (2 ∷ 2 ∷ [])) (hands (refused (reason 9 0)) (2 ∷ 2 ∷ []))
     ∷ onNone (entry 150) (number 21)
     ∷ onNone (entry 168) (number 40)
     ∷ onNone (entry 201) (number 5)
     ∷ onNone (entry 6) (number 62)
     ∷ onNone (entry 137) (number 63)
     ∷ onNone (entry 106) (number 42)
-    ∷ onNone (fill []) (says (filled 0) [])
-    ∷ onNone (first []) (says list [])
-    ∷ onNone (next [] []) (says (refused 9 0) [])
-    ∷ record { maker = self-record; depot = []; call = test (0 ∷ []); paper = shows (refused 3 0) (record { depots = false; start = 0; size = 0 }) }
+    ∷ onNone (fill []) (fills (answered 0) [])
+    ∷ onNone (first []) (hands handedOut [])
+    ∷ onNone (next [] []) (hands (refused (reason 9 0)) [])
+    ∷ record { maker = self-record; depot = []; call = test (0 ∷ []); paper = shows (refused (reason 3 0)) (record { depots = false; start = 0; size = 0 }) }
     ∷ []
 
 pub computed : Sample → Answer
@@ -109,11 +110,11 @@ paper-of p = p .paper
 -- P1 to P12, and no boxes under no rules: each call answers what the paper says
 pub samples : map computed table ≡ map paper-of table
 unfolding table self-record computed paper-of
-    lowest kindOf placesOf meaning rulesOf recFrom recordAt recordCount rulesIn boxAt boxesOf noKind lacksZ twoEqual bad
+    lowest kindOf placesOf meaning rulesOf recFrom recordAt recordCount isRule rulesIn boxAt boxesOf noKind lacksZ twoEqual bad
     holds has names gives follows code round closed
     boxesCheck makerCheck depotCheck countCheck recordCheck sheetCheck givenCheck outCheck listCheck
-    isIn breaks firstBroken testSays recordPart showsPart
-    closureOf clashes boxesFilled openCount clashCheck brokenCheck fillSays fillWrites
+    isIn breaks isBroken firstBroken testJudges testSays recordPart showsPart
+    closureOf clashes boxesFilled openCount clashCheck brokenCheck fillJudges fillSays fillWrites
     keeps fitsAll kits kitsAfter isNone headOf noneCheck firstSays firstWrites nextSays nextWrites
     recordOf statesOf packed outcome
 samples = refl

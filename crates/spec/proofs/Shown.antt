@@ -10,9 +10,9 @@ use borrow.Author.Tests.{ltb-true, ltb-false}
 use lib.Dec.{ltb}
 use lib.ListN.{length, take, drop, length-drop}
 use lib.Seq.{take-append-le, drop-append-le, drop-append-add}
-use Rattle.spec.specs.Refusals.{Said, refused, passed, fits, broken, filled, list}
+use Rattle.spec.specs.Refusals.{Said, refused, answered}
 use Rattle.spec.proofs.Broken.{broken-is}
-use Rattle.spec.specs.Fits.{Part, testSays, recordPart, partFor, showsPart, bytesOf}
+use Rattle.spec.specs.Fits.{Verdict, fits, broken, Part, testSays, recordPart, partFor, showsPart, bytesOf}
 
 abbrev emptyPart : Part
 emptyPart = record { depots = false; start = 0; size = 0 }
@@ -52,24 +52,21 @@ module _ (maker depot : List ℕ) (number : ℕ) where
       go true e = in-maker whole (ltb-true _ _ e)
       go false e = in-depot (ltb-false _ _ e)
 
-  pub shown-record : (l : List ℕ) → testSays maker depot l ≡ broken number → bytesOf maker depot (showsPart maker depot l) ≡ eightBytes maker depot number
+  pub shown-record : (l : List ℕ) → testSays maker depot l ≡ answered (broken number) → bytesOf maker depot (showsPart maker depot l) ≡ eightBytes maker depot number
   unfolding showsPart
   shown-record l e =
-      ap (λ (a : Said). bytesOf maker depot (partFor maker a)) e
+      ap (λ (a : Said Verdict). bytesOf maker depot (partFor maker a)) e
       ∙ record-bytes (broken-is maker depot l number (sym e) .accepted .makers)
 
 -- an answer that names no record
-abbrev pub NamesNone : Said → Type 0
-NamesNone a = (number : ℕ) → a ≡ broken number → ⊥
+abbrev pub NamesNone : Said Verdict → Type 0
+NamesNone a = (number : ℕ) → a ≡ answered (broken number) → ⊥
 
 pub shown-empty : (maker depot l : List ℕ) → NamesNone (testSays maker depot l) → showsPart maker depot l ≡ emptyPart
 unfolding showsPart
 shown-empty maker depot l none = go (testSays maker depot l) none
   where
-    go : (a : Said) → NamesNone a → partFor maker a ≡ emptyPart
-    go (refused number place) h = refl
-    go passed h = refl
-    go fits h = refl
-    go (broken number) h = absurd (h number refl)
-    go (filled boxes) h = refl
-    go list h = refl
+    go : (a : Said Verdict) → NamesNone a → partFor maker a ≡ emptyPart
+    go (refused why) h = refl
+    go (answered fits) h = refl
+    go (answered (broken number)) h = absurd (h number refl)

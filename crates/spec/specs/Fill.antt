@@ -9,7 +9,7 @@ use Rattle.lemmas.specs.Lists.{any, count, upto}
 use Rattle.spec.specs.Records.{recordCount, rulesIn}
 use Rattle.spec.specs.Facts.{holds}
 use Rattle.spec.specs.Rounds.{closed}
-use Rattle.spec.specs.Refusals.{Said, refused, passed, fits, broken, filled, list, Check, judge, orderChecks}
+use Rattle.spec.specs.Refusals.{Said, reason, answered, Check, judge, written, orderChecks}
 use Rattle.spec.specs.Fits.{firstBroken}
 
 -- the closure of the sheet's facts, as codes
@@ -29,31 +29,25 @@ openCount c = count (eqb 2) c
 
 -- 7: a clash
 unfoldable pub clashCheck : List ℕ → Check
-clashCheck c = record { number = 7; when = clashes c; place = 0 }
+clashCheck c = record { when = clashes c; why = reason 7 0 }
 
 -- 8: the filled sheet has no open box and breaks a rule
 unfoldable pub brokenCheck : List ℕ → List ℕ → List ℕ → Check
 brokenCheck maker depot c =
     record {
-      number = 8;
       when = eqb (openCount c) 0 && ltb (firstBroken maker depot c) (recordCount maker depot);
-      place = firstBroken maker depot c;
+      why = reason 8 (firstBroken maker depot c);
     }
 
-unfoldable pub fillSays : List ℕ → List ℕ → List ℕ → List ℕ → Said
-fillSays maker depot sheet out =
-    judge (orderChecks maker depot sheet out)
-    (judge (clashCheck (closureOf maker depot sheet) ∷ brokenCheck maker depot (closureOf maker depot sheet) ∷ [])
-    (filled (boxesFilled sheet (closureOf maker depot sheet))))
+-- what Fill says of a call in form: 7, 8, or the number of boxes filled
+unfoldable pub fillJudges : List ℕ → List ℕ → List ℕ → Said ℕ
+fillJudges maker depot sheet =
+    judge (clashCheck (closureOf maker depot sheet) ∷ brokenCheck maker depot (closureOf maker depot sheet) ∷ [])
+    (answered (boxesFilled sheet (closureOf maker depot sheet)))
 
--- what the out buffer holds afterwards: a refusal leaves it as it was
-abbrev pub written : Said → List ℕ → List ℕ → List ℕ
-written (refused number place) new old = old
-written passed new old = old
-written fits new old = old
-written (broken number) new old = old
-written (filled boxes) new old = new
-written list new old = new
+unfoldable pub fillSays : List ℕ → List ℕ → List ℕ → List ℕ → Said ℕ
+fillSays maker depot sheet out = judge (orderChecks maker depot sheet out) (fillJudges maker depot sheet)
 
+-- what the out buffer holds afterwards
 unfoldable pub fillWrites : List ℕ → List ℕ → List ℕ → List ℕ → List ℕ
 fillWrites maker depot sheet out = written (fillSays maker depot sheet out) (closureOf maker depot sheet) out

@@ -7,9 +7,8 @@ use lib.Dec.{ltb, eqb}
 use lib.ListN.{length, getD}
 use Rattle.lemmas.specs.Lists.{all, any, those, upto}
 use Rattle.spec.specs.Records.{rulesIn}
-use Rattle.spec.specs.Refusals.{Said, list, Check, judge, orderChecks, nextChecks}
+use Rattle.spec.specs.Refusals.{Said, reason, answered, Check, judge, written, orderChecks, nextChecks}
 use Rattle.spec.specs.Fits.{breaks}
-use Rattle.spec.specs.Fill.{written}
 
 -- every full list of n boxes, ascending: box 0 counts most, out before in
 abbrev pub fullLists : ℕ → List (List ℕ)
@@ -50,18 +49,25 @@ headOf (l ∷ ls) = l
 
 -- 9: no such full list
 unfoldable pub noneCheck : List (List ℕ) → Check
-noneCheck ls = record { number = 9; when = isNone ls; place = 0 }
+noneCheck ls = record { when = isNone ls; why = reason 9 0 }
 
-unfoldable pub firstSays : List ℕ → List ℕ → List ℕ → List ℕ → Said
-firstSays maker depot sheet out =
-    judge (orderChecks maker depot sheet out) (judge (noneCheck (kits maker depot sheet) ∷ []) list)
+-- a list is handed out: nothing is said besides
+abbrev pub handedOut : Said (Unit {0})
+handedOut = answered tt
+
+-- what is said of a call in form: 9, or that a list is handed out
+abbrev pub handsOut : List (List ℕ) → Said (Unit {0})
+handsOut ls = judge (noneCheck ls ∷ []) handedOut
+
+unfoldable pub firstSays : List ℕ → List ℕ → List ℕ → List ℕ → Said (Unit {0})
+firstSays maker depot sheet out = judge (orderChecks maker depot sheet out) (handsOut (kits maker depot sheet))
 
 unfoldable pub firstWrites : List ℕ → List ℕ → List ℕ → List ℕ → List ℕ
 firstWrites maker depot sheet out = written (firstSays maker depot sheet out) (headOf (kits maker depot sheet)) out
 
-unfoldable pub nextSays : List ℕ → List ℕ → List ℕ → List ℕ → List ℕ → Said
+unfoldable pub nextSays : List ℕ → List ℕ → List ℕ → List ℕ → List ℕ → Said (Unit {0})
 nextSays maker depot sheet given out =
-    judge (nextChecks maker depot sheet given out) (judge (noneCheck (kitsAfter maker depot sheet given) ∷ []) list)
+    judge (nextChecks maker depot sheet given out) (handsOut (kitsAfter maker depot sheet given))
 
 unfoldable pub nextWrites : List ℕ → List ℕ → List ℕ → List ℕ → List ℕ → List ℕ
 nextWrites maker depot sheet given out =

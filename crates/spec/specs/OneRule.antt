@@ -8,7 +8,7 @@ use Rattle.spec.specs.Rounds.{closed}
 
 -- a record of this kind on the boxes 0, 1, 2: the three boxes taken as different
 abbrev pub alone : ℕ → Rec
-alone kind = record { kind = kind; one = 0; x = 0; y = 1; z = 2 }
+alone kind = record { kind = kind; byte1 = 0; x = 0; y = 1; z = 2 }
 
 -- entry 64 × (kind − 1) + 16 × a + 4 × b + c
 unfoldable pub recordOf : ℕ → Rec

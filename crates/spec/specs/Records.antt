@@ -5,13 +5,13 @@ use mathlib.Core.List.{List, [], _∷_, _++_, map}
 use Prim.Native.Nat.{ℕ, _+_, _*_, _/_}
 use lib.Dec.{leb, eqb}
 use lib.ListN.{length, getD}
-use Rattle.lemmas.specs.Lists.{any, upto}
+use Rattle.lemmas.specs.Lists.{any, those, upto}
 use Rattle.spec.specs.Kinds.{Kind, EQU, NOT, AND, OR, other, Place, X, Y, Z, kindOf, placesOf}
 
 -- a record: byte 0 kind; byte 1; bytes 2-3, 4-5, 6-7 the boxes x, y, z
 pub record Rec : Type 0 where
   pub kind : ℕ
-  pub one : ℕ
+  pub byte1 : ℕ
   pub x : ℕ
   pub y : ℕ
   pub z : ℕ
@@ -25,7 +25,7 @@ unfoldable pub recFrom : List ℕ → ℕ → Rec
 recFrom t at =
     record {
       kind = getD t at 0;
-      one = getD t (at + 1) 0;
+      byte1 = getD t (at + 1) 0;
       x = word (getD t (at + 2) 0) (getD t (at + 3) 0);
       y = word (getD t (at + 4) 0) (getD t (at + 5) 0);
       z = word (getD t (at + 6) 0) (getD t (at + 7) 0);
@@ -39,9 +39,13 @@ recordAt maker depot number = recFrom (maker ++ depot) (8 * number)
 unfoldable pub recordCount : List ℕ → List ℕ → ℕ
 recordCount maker depot = length maker / 8 + length depot / 8
 
--- the records that count as rules, in their order: all of them
+-- a record that counts as a rule: every one does. What a rule means is said of these alone, what is good form of every record
+unfoldable pub isRule : Rec → Bool
+isRule q = true
+
+-- the rules, in the order of their records
 unfoldable pub rulesIn : List ℕ → List ℕ → List Rec
-rulesIn maker depot = map (recordAt maker depot) (upto (recordCount maker depot))
+rulesIn maker depot = those isRule (map (recordAt maker depot) (upto (recordCount maker depot)))
 
 -- the box at a place
 unfoldable pub boxAt : Rec → Place → ℕ
@@ -79,7 +83,7 @@ twoEqual (b ∷ bs) = any (eqb b) bs || twoEqual bs
 unfoldable pub bad : ℕ → Rec → Bool
 bad n q =
     noKind (kindOf (q .kind))
-    || not (eqb (q .one) 0)
+    || not (eqb (q .byte1) 0)
     || any (leb n) (boxesOf q)
     || (lacksZ (kindOf (q .kind)) && not (eqb (q .z) 65535))
     || twoEqual (boxesOf q)

@@ -1,5 +1,6 @@
 -- Numbers and order of checks: the table of refusals, and what an operation says.
 -- Assumes nothing.
+use mathlib.Core.Path.{_≡_}
 use mathlib.Core.Bool.{Bool, cond, not}
 use mathlib.Core.List.{List, [], _∷_, _++_}
 use Prim.Native.Nat.{ℕ, _%_}
@@ -8,62 +9,78 @@ use lib.ListN.{length, getD}
 use Rattle.lemmas.specs.Lowest.{lowest}
 use Rattle.spec.specs.Records.{bad, recordAt, recordCount}
 
--- what an operation says. `passed` is said by checks alone: none applies
-pub data Said : Type 0 where
-  refused : (number place : ℕ) → Said
-  passed : Said
-  fits : Said
-  broken : (record-number : ℕ) → Said
-  filled : (boxes : ℕ) → Said
-  list : Said
+-- a refusal, by its number and its place
+pub data Refusal : Type 0 where
+  numbered : (number place : ℕ) → Refusal
 
--- a row of the table: the number, given exactly when, the place
+abbrev pub reason : (number place : ℕ) → Refusal
+reason number place = numbered number place
+
+-- what an operation says: that it is refused, and why; or an answer of its own kind
+pub data Said (A : Type 0) : Type 0 where
+  refused : (why : Refusal) → Said A
+  answered : (answer : A) → Said A
+
+-- what checks say where none applies
+abbrev pub passed : Said (Unit {0})
+passed = answered tt
+
+-- a row of the table: given exactly when, and the refusal that it makes
 pub record Check : Type 0 where
-  pub number : ℕ
   pub when : Bool
-  pub place : ℕ
+  pub why : Refusal
 
 -- checks run in their order; the first that applies is given. Where none does, `after` is said
-abbrev pub judge : List Check → Said → Said
+abbrev pub judge : {A : Type 0} → List Check → Said A → Said A
 judge [] after = after
-judge (c ∷ cs) after = cond (c .when) (refused (c .number) (c .place)) (judge cs after)
+judge (c ∷ cs) after = cond (c .when) (refused (c .why)) (judge cs after)
 
--- the row that is given when one of the `count` places fails the test, at the lowest such place
-abbrev pub lowestOf : ℕ → (ℕ → Bool) → ℕ → Check
-lowestOf number fails count = record { number = number; when = ltb (lowest fails count) count; place = lowest fails count }
+-- what a buffer that is lent for writing holds afterwards: a refusal leaves it as it was
+abbrev pub written : {A : Type 0} → Said A → (new old : List ℕ) → List ℕ
+written (refused why) new old = old
+written (answered answer) new old = new
+
+-- the promise of an operation that is lent a buffer: the answer is the one due, and every byte left is the one due
+pub record Does {A : Type 0} (due : A) (bytes : List ℕ) (answer : A) (left : List ℕ) : Type 0 where
+  pub says : answer ≡ due
+  pub writes : left ≡ bytes
+
+-- the row that is given when one of the `count` places fails the test, with the refusal at the lowest such place
+abbrev pub lowestOf : (ℕ → Refusal) → (ℕ → Bool) → ℕ → Check
+lowestOf at-place fails count = record { when = ltb (lowest fails count) count; why = at-place (lowest fails count) }
 
 -- 1: n above 256
 unfoldable pub boxesCheck : ℕ → Check
-boxesCheck n = record { number = 1; when = ltb 256 n; place = 0 }
+boxesCheck n = record { when = ltb 256 n; why = reason 1 0 }
 
 -- 2: maker's length not a multiple of 8; depot's likewise; together above 1,024 records
 unfoldable pub makerCheck : List ℕ → Check
-makerCheck maker = record { number = 2; when = not (eqb (length maker % 8) 0); place = 0 }
+makerCheck maker = record { when = not (eqb (length maker % 8) 0); why = reason 2 0 }
 
 unfoldable pub depotCheck : List ℕ → Check
-depotCheck depot = record { number = 2; when = not (eqb (length depot % 8) 0); place = 1 }
+depotCheck depot = record { when = not (eqb (length depot % 8) 0); why = reason 2 1 }
 
 unfoldable pub countCheck : List ℕ → List ℕ → Check
-countCheck maker depot = record { number = 2; when = ltb 1024 (recordCount maker depot); place = 2 }
+countCheck maker depot = record { when = ltb 1024 (recordCount maker depot); why = reason 2 2 }
 
 -- 3: a record is bad
 unfoldable pub recordCheck : ℕ → List ℕ → List ℕ → Check
-recordCheck n maker depot = lowestOf 3 (λ r. bad n (recordAt maker depot r)) (recordCount maker depot)
+recordCheck n maker depot = lowestOf (reason 3) (λ r. bad n (recordAt maker depot r)) (recordCount maker depot)
 
 -- 4: a sheet byte above 2
 unfoldable pub sheetCheck : List ℕ → Check
-sheetCheck sheet = lowestOf 4 (λ b. ltb 2 (getD sheet b 0)) (length sheet)
+sheetCheck sheet = lowestOf (reason 4) (λ b. ltb 2 (getD sheet b 0)) (length sheet)
 
 -- 5: the given list's length is not n; the out buffer's length is not n
 unfoldable pub givenCheck : ℕ → List ℕ → Check
-givenCheck n given = record { number = 5; when = not (eqb (length given) n); place = 0 }
+givenCheck n given = record { when = not (eqb (length given) n); why = reason 5 0 }
 
 unfoldable pub outCheck : ℕ → List ℕ → Check
-outCheck n out = record { number = 5; when = not (eqb (length out) n); place = 1 }
+outCheck n out = record { when = not (eqb (length out) n); why = reason 5 1 }
 
 -- 6: the list has a byte above 1
 unfoldable pub listCheck : List ℕ → Check
-listCheck l = lowestOf 6 (λ b. ltb 1 (getD l b 0)) (length l)
+listCheck l = lowestOf (reason 6) (λ b. ltb 1 (getD l b 0)) (length l)
 
 -- the checks of the tables, with n boxes: 1, 2, 3
 abbrev pub tableChecks : ℕ → List ℕ → List ℕ → List Check

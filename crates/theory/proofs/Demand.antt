@@ -1,7 +1,7 @@
 -- Demand 2, of the functions that Fill's promise cites. On a call that passes the checks of form, 7 is said exactly when some box has
 -- both facts in the closure; and where a number of boxes is said, what is written is the closure, and the number is right.
 -- Assumes nothing.
-use mathlib.Core.Path.{_≡_, subst⁻¹}
+use mathlib.Core.Path.{_≡_, sym, ap, subst⁻¹, _∙_}
 use mathlib.Core.Logic.{_↔_}
 use mathlib.Core.Bool.{Bool, true, false}
 use mathlib.Core.List.{List}
@@ -10,15 +10,16 @@ use lib.Dec.{T}
 use lib.ListN.{length, getD}
 use Rattle.spec.specs.Records.{recordCount, rulesIn}
 use Rattle.spec.specs.Facts.{Facts, Closure, Clash, holds}
-use Rattle.spec.specs.Refusals.{refused, passed, filled, judge, orderChecks}
+use Rattle.spec.specs.Refusals.{reason, Said, refused, answered, passed, judge, written, orderChecks}
 use Rattle.spec.specs.Fits.{firstBroken}
-use Rattle.spec.specs.Fill.{closureOf, boxesFilled, openCount, fillSays, fillWrites}
+use Rattle.spec.specs.Fill.{closureOf, boxesFilled, openCount, fillJudges, fillSays, fillWrites}
+use Rattle.spec.proofs.Judge.{judge-passed}
+use Rattle.spec.proofs.Accepted.{AcceptedSheet, order-accepted}
 use Rattle.theory.specs.Steps.{IsSheet, Grown}
 use Rattle.theory.proofs.States.{stateOf, sheet-codes, holds-state, state-holds, open-none, none-open}
 use Rattle.theory.proofs.Growth.{closed-grown}
 use Rattle.theory.proofs.Measure.{grown-kept}
-use Rattle.theory.proofs.Form.{form-passed}
-use Rattle.theory.proofs.Filling.{codes-exact, fill-said, fill-clash, fill-seven, fill-number, fill-filled}
+use Rattle.theory.proofs.Filling.{codes-exact, fill-clash, fill-seven, fill-number, fill-filled}
 
 -- the closure of the sheet's facts under the tables
 abbrev pub Derived : (maker depot sheet : List ℕ) → Facts
@@ -35,17 +36,25 @@ pub record IsFilled (maker depot sheet w : List ℕ) : Type 0 where
 -- what is demanded of Fill on a call in form
 pub record Demand (maker depot sheet out : List ℕ) : Type 0 where
   -- 7 is said exactly when there is a clash
-  pub refuses : (fillSays maker depot sheet out ≡ refused 7 0) ↔ ((b : ℕ) × Clash (rulesIn maker depot) sheet b)
+  pub refuses : (fillSays maker depot sheet out ≡ refused (reason 7 0)) ↔ ((b : ℕ) × Clash (rulesIn maker depot) sheet b)
   -- without one a number of boxes is said, unless the filled sheet has no open box and breaks a rule
   pub accepts : ((b : ℕ) → Clash (rulesIn maker depot) sheet b → ⊥) →
       (openCount (closureOf maker depot sheet) ≡ 0 → firstBroken maker depot (closureOf maker depot sheet) < recordCount maker depot → ⊥) →
-      (k : ℕ) × (fillSays maker depot sheet out ≡ filled k)
+      (k : ℕ) × (fillSays maker depot sheet out ≡ answered k)
   -- then the filled sheet is written
-  pub writes : (k : ℕ) → fillSays maker depot sheet out ≡ filled k → IsFilled maker depot sheet (fillWrites maker depot sheet out)
+  pub writes : (k : ℕ) → fillSays maker depot sheet out ≡ answered k → IsFilled maker depot sheet (fillWrites maker depot sheet out)
   -- and the number is that of the boxes that were 2 and are not now
-  pub counts : (k : ℕ) → fillSays maker depot sheet out ≡ filled k → k ≡ boxesFilled sheet (fillWrites maker depot sheet out)
+  pub counts : (k : ℕ) → fillSays maker depot sheet out ≡ answered k → k ≡ boxesFilled sheet (fillWrites maker depot sheet out)
 
 module _ (maker depot sheet out : List ℕ) (form : judge (orderChecks maker depot sheet out) passed ≡ passed) where
+  known : AcceptedSheet (length sheet) maker depot sheet
+  known = order-accepted maker depot sheet out form .order
+
+  -- the form has passed, so what is said is Fill's own
+  said-own : fillSays maker depot sheet out ≡ fillJudges maker depot sheet
+  unfolding fillSays
+  said-own = judge-passed (orderChecks maker depot sheet out) (fillJudges maker depot sheet) form
+
   -- without a clash the closure's codes are the filled sheet
   codes-filled : ((b : ℕ) → Clash (rulesIn maker depot) sheet b → ⊥) → IsFilled maker depot sheet (closureOf maker depot sheet)
   unfolding closureOf
@@ -65,13 +74,13 @@ module _ (maker depot sheet out : List ℕ) (form : judge (orderChecks maker dep
       codes = closureOf maker depot sheet
 
       bytes : IsSheet sheet
-      bytes = form-passed maker depot sheet out form .sheet-bytes
+      bytes = known .sheet-bytes
 
       grown : Grown (rulesIn maker depot) sheet codes
       grown = closed-grown (rulesIn maker depot) sheet bytes none
 
       exact : (b : ℕ) (state : Bool) → T (holds codes b state) ↔ Derived maker depot sheet b state
-      exact = codes-exact maker depot sheet out form
+      exact = codes-exact maker depot sheet known
 
       state-fact : (b : ℕ) (state : Bool) → (getD codes b 2 ≡ stateOf state) ↔ Derived maker depot sheet b state
       state-fact b state = (
@@ -85,17 +94,18 @@ module _ (maker depot sheet out : List ℕ) (form : judge (orderChecks maker dep
       neither b h true t = h .1 (exact b true .0 t)
 
   pub demand : Demand maker depot sheet out
+  unfolding fillWrites
   demand =
       record {
-        refuses = (fill-seven maker depot sheet out form, λ found. fill-clash maker depot sheet out form (found .1) .says);
-        accepts = λ none whole. (boxesFilled sheet (closureOf maker depot sheet), fill-filled maker depot sheet out form none whole .says);
+        refuses = (λ e. fill-seven maker depot sheet known (sym said-own ∙ e), λ found. said-own ∙ fill-clash maker depot sheet known (found .1));
+        accepts = λ none whole. (boxesFilled sheet (closureOf maker depot sheet), said-own ∙ fill-filled maker depot sheet none whole);
         writes = λ k said. subst⁻¹ (IsFilled maker depot sheet) (wrote k said) (codes-filled (number k said .0));
         counts = λ k said. rw (wrote k said) (number k said .1);
       }
     where
-      wrote : (k : ℕ) → fillSays maker depot sheet out ≡ filled k → fillWrites maker depot sheet out ≡ closureOf maker depot sheet
-      wrote k said = fill-said maker depot sheet out (filled k) said .writes
+      wrote : (k : ℕ) → fillSays maker depot sheet out ≡ answered k → fillWrites maker depot sheet out ≡ closureOf maker depot sheet
+      wrote k said = ap (λ (s : Said ℕ). written s (closureOf maker depot sheet) out) said
 
-      number : (k : ℕ) → fillSays maker depot sheet out ≡ filled k →
+      number : (k : ℕ) → fillSays maker depot sheet out ≡ answered k →
           ((b : ℕ) → Clash (rulesIn maker depot) sheet b → ⊥) × (k ≡ boxesFilled sheet (closureOf maker depot sheet))
-      number = fill-number maker depot sheet out form
+      number k said = fill-number maker depot sheet known k (sym said-own ∙ said)

@@ -1,4 +1,4 @@
--- What Fill says and writes, in each of its cases.
+-- What Fill says of a call in form, in each of its cases.
 -- Assumes nothing.
 use mathlib.Core.Path.{_≡_, refl, sym, ap, subst, _∙_}
 use mathlib.Core.Logic.{_↔_}
@@ -14,29 +14,23 @@ use Rattle.lemmas.proofs.Tests.{T-true, true-T, false-T, both-left, both-right,
 use Rattle.lemmas.proofs.Members.{any-member, any-of, upto-member}
 use Rattle.spec.specs.Records.{recordCount, rulesIn}
 use Rattle.spec.specs.Facts.{Closure, Clash, holds}
-use Rattle.spec.specs.Refusals.{Said, refused, passed, filled, judge, orderChecks}
+use Rattle.spec.specs.Refusals.{Refusal, reason, Said, refused, answered, judge}
 use Rattle.spec.specs.Fits.{firstBroken}
-use Rattle.spec.specs.Fill.{closureOf, clashes, boxesFilled, openCount, clashCheck, brokenCheck, fillSays, written, fillWrites}
-use Rattle.spec.proofs.Judge.{judge-passed, judge-refused}
+use Rattle.spec.specs.Fill.{closureOf, clashes, boxesFilled, openCount, clashCheck, brokenCheck, fillJudges}
+use Rattle.spec.proofs.Accepted.{AcceptedSheet}
 use Rattle.spec.proofs.Named.{within-good}
 use Rattle.spec.proofs.Codes.{holds-below}
 use Rattle.spec.proofs.Closed.{closed-sound, closed-closure}
 use Rattle.theory.proofs.States.{sheet-codes}
 use Rattle.theory.proofs.Numbered.{rules-good}
-use Rattle.theory.proofs.Form.{InForm, form-passed}
-
--- what is said, and what the out buffer holds afterwards
-pub record Fills (maker depot sheet out : List ℕ) (said : Said) (left : List ℕ) : Type 0 where
-  pub says : fillSays maker depot sheet out ≡ said
-  pub writes : fillWrites maker depot sheet out ≡ left
 
 -- where 7 is said, and where a number of boxes is, by whether 7 and 8 apply
-seven-said : (seven eight : Bool) (place k : ℕ) → cond seven (refused 7 0) (cond eight (refused 8 place) (filled k)) ≡ refused 7 0 → seven ≡ true
+seven-said : (seven eight : Bool) (place k : ℕ) → cond seven (refused (reason 7 0)) (cond eight (refused (reason 8 place)) (answered k)) ≡ refused (reason 7 0) → seven ≡ true
 seven-said true eight place k e = refl
 seven-said false true place k e = let z : _≡_ {A = ℕ} 8 7 = cc in absurd (omega arith)
 seven-said false false place k e = let z : _≡_ {A = ℕ} 0 1 = cc in absurd (omega arith)
 
-number-said : (seven eight : Bool) (place j k : ℕ) → cond seven (refused 7 0) (cond eight (refused 8 place) (filled j)) ≡ filled k →
+number-said : (seven eight : Bool) (place j k : ℕ) → cond seven (refused (reason 7 0)) (cond eight (refused (reason 8 place)) (answered j)) ≡ answered k →
     (seven ≡ false) × (k ≡ j)
 number-said true eight place j k e = let z : _≡_ {A = ℕ} 0 1 = cc in absurd (omega arith)
 number-said false true place j k e = let z : _≡_ {A = ℕ} 0 1 = cc in absurd (omega arith)
@@ -60,81 +54,58 @@ module _ (maker depot sheet : List ℕ) where
       let fact = closed-sound (rulesIn maker depot) sheet b in
       (b, (fact false (both-left (holds codes b false) _ (found .2)), fact true (both-right (holds codes b false) _ (found .2))))
 
-  module _ (out : List ℕ) where
-    -- what is said decides what is written
-    pub fill-said : (said : Said) → fillSays maker depot sheet out ≡ said → Fills maker depot sheet out said (written said codes out)
-    unfolding fillWrites
-    fill-said said e = record { says = e; writes = ap (λ (a : Said). written a codes out) e }
+  module _ (known : AcceptedSheet (length sheet) maker depot sheet) where
+    -- the codes hold exactly the closure's facts
+    pub codes-exact : (b : ℕ) (state : Bool) → T (holds codes b state) ↔ Closure (rulesIn maker depot) sheet b state
+    unfolding closureOf
+    codes-exact =
+        closed-closure (rulesIn maker depot) sheet (sheet-codes sheet (known .sheet-bytes))
+        (within-good (length sheet) (rulesIn maker depot) (rules-good maker depot (known .tables)))
 
-    -- the form is refused
-    pub fill-refused : {number place : ℕ} → judge (orderChecks maker depot sheet out) passed ≡ refused number place →
-        Fills maker depot sheet out (refused number place) out
-    unfolding fillSays
-    fill-refused {number} {place} e = fill-said (refused number place) (judge-refused (orderChecks maker depot sheet out) _ e)
+    -- every clash is found
+    clash-finds : {b : ℕ} → Clash (rulesIn maker depot) sheet b → T (clashes codes)
+    unfolding clashes
+    clash-finds {b} (is-out, is-in) =
+        let out′ = codes-exact b false .1 is-out in
+        let in′ = codes-exact b true .1 is-in in
+        any-of hasBoth (upto-member (holds-below codes b false out′)) (both-of (holds codes b false) (holds codes b true) out′ in′)
 
-    module _ (form : judge (orderChecks maker depot sheet out) passed ≡ passed) where
-      -- 7 and 8 decide
-      pub fill-decided : fillSays maker depot sheet out ≡
-          judge (clashCheck codes ∷ brokenCheck maker depot codes ∷ []) (filled (boxesFilled sheet codes))
-      unfolding fillSays
-      fill-decided = judge-passed (orderChecks maker depot sheet out) _ form
+    pub fill-clash : {b : ℕ} → Clash (rulesIn maker depot) sheet b → fillJudges maker depot sheet ≡ refused (reason 7 0)
+    unfolding fillJudges clashCheck
+    fill-clash clash = rw (true-T (clashes codes) (clash-finds clash))
 
-      -- the codes hold exactly the closure's facts
-      pub codes-exact : (b : ℕ) (state : Bool) → T (holds codes b state) ↔ Closure (rulesIn maker depot) sheet b state
-      unfolding closureOf
-      codes-exact =
-          closed-closure (rulesIn maker depot) sheet (sheet-codes sheet (known .sheet-bytes))
-          (within-good (length sheet) (rulesIn maker depot) (rules-good maker depot (known .tables)))
-        where
-          known : InForm maker depot sheet out
-          known = form-passed maker depot sheet out form
+    -- 7 is said for a clash alone
+    pub fill-seven : fillJudges maker depot sheet ≡ refused (reason 7 0) → (b : ℕ) × Clash (rulesIn maker depot) sheet b
+    unfolding fillJudges clashCheck brokenCheck
+    fill-seven e = clash-found (T-true (seven-said (clashes codes) (brokenCheck maker depot codes .when) _ _ e))
 
-      -- every clash is found
-      clash-finds : {b : ℕ} → Clash (rulesIn maker depot) sheet b → T (clashes codes)
-      unfolding clashes
-      clash-finds {b} (is-out, is-in) =
-          let out′ = codes-exact b false .1 is-out in
-          let in′ = codes-exact b true .1 is-in in
-          any-of hasBoth (upto-member (holds-below codes b false out′)) (both-of (holds codes b false) (holds codes b true) out′ in′)
+    -- a number of boxes is said without a clash, and is the right one
+    pub fill-number : (k : ℕ) → fillJudges maker depot sheet ≡ answered k →
+        ((b : ℕ) → Clash (rulesIn maker depot) sheet b → ⊥) × (k ≡ boxesFilled sheet codes)
+    unfolding fillJudges clashCheck brokenCheck
+    fill-number k e =
+        let said = number-said (clashes codes) (brokenCheck maker depot codes .when) _ _ k e in
+        (λ b clash. subst T (said .0) (clash-finds clash), said .1)
 
-      pub fill-clash : {b : ℕ} → Clash (rulesIn maker depot) sheet b → Fills maker depot sheet out (refused 7 0) out
-      unfolding clashCheck
-      fill-clash clash = fill-said (refused 7 0) (fill-decided ∙ rw (true-T (clashes codes) (clash-finds clash)))
+  module _ (none : (b : ℕ) → Clash (rulesIn maker depot) sheet b → ⊥) where
+    no-clash : clashes codes ≡ false
+    no-clash = false-T (clashes codes) (λ t. let found = clash-found t in none (found .0) (found .1))
 
-      -- 7 is said for a clash alone
-      pub fill-seven : fillSays maker depot sheet out ≡ refused 7 0 → (b : ℕ) × Clash (rulesIn maker depot) sheet b
-      unfolding clashCheck brokenCheck
-      fill-seven e =
-          clash-found
-          (T-true (seven-said (clashes codes) (brokenCheck maker depot codes .when) _ _ (sym fill-decided ∙ e)))
+    -- no box is open and a record is broken
+    pub fill-broken : openCount codes ≡ 0 → firstBroken maker depot codes < recordCount maker depot →
+        fillJudges maker depot sheet ≡ refused (reason 8 (firstBroken maker depot codes))
+    unfolding fillJudges clashCheck brokenCheck
+    fill-broken full less = rw (no-clash, full, lt-ltb _ _ less)
 
-      -- a number of boxes is said without a clash, and is the right one
-      pub fill-number : (k : ℕ) → fillSays maker depot sheet out ≡ filled k →
-          ((b : ℕ) → Clash (rulesIn maker depot) sheet b → ⊥) × (k ≡ boxesFilled sheet codes)
-      unfolding clashCheck brokenCheck
-      fill-number k e =
-          let said = number-said (clashes codes) (brokenCheck maker depot codes .when) _ _ k (sym fill-decided ∙ e) in
-          (λ b clash. subst T (said .0) (clash-finds clash), said .1)
-
-      module _ (none : (b : ℕ) → Clash (rulesIn maker depot) sheet b → ⊥) where
-        no-clash : clashes codes ≡ false
-        no-clash = false-T (clashes codes) (λ t. let found = clash-found t in none (found .0) (found .1))
-
-        -- no box is open and a record is broken
-        pub fill-broken : openCount codes ≡ 0 → firstBroken maker depot codes < recordCount maker depot →
-            Fills maker depot sheet out (refused 8 (firstBroken maker depot codes)) out
-        unfolding clashCheck brokenCheck
-        fill-broken full less = fill-said _ (fill-decided ∙ rw (no-clash, full, lt-ltb _ _ less))
-
-        pub fill-filled : (openCount codes ≡ 0 → firstBroken maker depot codes < recordCount maker depot → ⊥) →
-            Fills maker depot sheet out (filled (boxesFilled sheet codes)) codes
-        unfolding clashCheck brokenCheck
-        fill-filled whole = fill-said _ (fill-decided ∙ rw (no-clash, unbroken))
-          where
-            unbroken : (eqb (openCount codes) 0 && ltb (firstBroken maker depot codes) (recordCount maker depot)) ≡ false
-            unbroken =
-                false-T _
-                (λ t.
-                whole
-                (eqb→eq (openCount codes) 0 (both-left (eqb (openCount codes) 0) _ t))
-                (ltb→lt (firstBroken maker depot codes) (recordCount maker depot) (both-right (eqb (openCount codes) 0) _ t)))
+    pub fill-filled : (openCount codes ≡ 0 → firstBroken maker depot codes < recordCount maker depot → ⊥) →
+        fillJudges maker depot sheet ≡ answered (boxesFilled sheet codes)
+    unfolding fillJudges clashCheck brokenCheck
+    fill-filled whole = rw (no-clash, unbroken)
+      where
+        unbroken : (eqb (openCount codes) 0 && ltb (firstBroken maker depot codes) (recordCount maker depot)) ≡ false
+        unbroken =
+            false-T _
+            (λ t.
+            whole
+            (eqb→eq (openCount codes) 0 (both-left (eqb (openCount codes) 0) _ t))
+            (ltb→lt (firstBroken maker depot codes) (recordCount maker depot) (both-right (eqb (openCount codes) 0) _ t)))

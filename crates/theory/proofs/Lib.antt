@@ -8,6 +8,5 @@ pub mod Embedding
 pub mod Stepping
 pub mod Measure
 pub mod Numbered
-pub mod Form
 pub mod Filling
 pub mod Demand

@@ -118,7 +118,7 @@ module _ (n : ℕ) (q : Rec) (good : bad n q ≡ false) where
       others : Bool
       others =
           noKind (kindOf (q .kind))
-          || not (eqb (q .one) 0)
+          || not (eqb (q .byte1) 0)
           || any (leb n) (boxesOf q)
           || (lacksZ (kindOf (q .kind)) && not (eqb (q .z) 65535))
 
