@@ -1,24 +1,33 @@
 -- What is known once checks of form have passed, each fact by its name.
 -- Assumes nothing.
-use mathlib.Core.Path.{_≡_, refl, sym, _∙_}
-use mathlib.Core.Bool.{false}
+use mathlib.Core.Path.{_≡_, refl, sym, ap, subst, _∙_}
+use mathlib.Core.Bool.{Bool, false, not, _&&_, _||_}
 use mathlib.Core.List.{List, [], _∷_}
 use Prim.Native.Nat.{ℕ, _≤_, _<_, _%_}
 use native.Mathlib.Omega.{arith}
 use borrow.Author.Tests.{ltb-false, eqb-true, not-false}
+use lib.Dec.{T, leb, eqb, leb→le, le→leb}
 use lib.ListN.{length, getD}
+use Rattle.lemmas.specs.Lists.{any}
 use Rattle.lemmas.proofs.Lowest.{lowest-below}
 use Rattle.lemmas.proofs.Reading.{getD-each}
-use Rattle.spec.specs.Records.{bad, recordAt, recordCount}
+use Rattle.lemmas.proofs.Tests.{false-T, or-false-left, or-false-right}
+use Rattle.lemmas.proofs.Members.{any-member, any-of}
+use Rattle.spec.specs.Kinds.{kindOf}
+use Rattle.spec.specs.Records.{Rec, bad, boxesOf, noKind, lacksZ, twoEqual, recordAt, recordCount}
 use Rattle.spec.specs.Refusals.{passed, Check, judge, tableChecks, sheetChecks, orderChecks, nextChecks, boxesCheck, makerCheck, depotCheck, countCheck, recordCheck, sheetCheck, givenCheck, outCheck, listCheck}
 use Rattle.spec.specs.Fits.{testChecks}
 use Rattle.spec.proofs.Judge.{Passes, judge-passes, judge-left, judge-right}
 
+-- both tables hold whole records
+pub record WholeRecords (maker depot : List ℕ) : Type 0 where
+  pub makers : length maker % 8 ≡ 0
+  pub depots : length depot % 8 ≡ 0
+
 -- the tables are accepted, with n boxes
 pub record Accepted (n : ℕ) (maker depot : List ℕ) : Type 0 where
   pub boxes : n ≤ 256
-  pub makers : length maker % 8 ≡ 0
-  pub depots : length depot % 8 ≡ 0
+  pub whole : WholeRecords maker depot
   pub count : recordCount maker depot ≤ 1024
   pub good : (r : ℕ) → r < recordCount maker depot → bad n (recordAt maker depot r) ≡ false
 
@@ -47,8 +56,7 @@ tables-accepted n maker depot e = named (judge-passes (tableChecks n maker depot
     named (boxes, (makers, (depots, (count, (records, _))))) =
         record {
           boxes = ltb-false _ _ boxes;
-          makers = eqb-true _ _ (not-false _ makers);
-          depots = eqb-true _ _ (not-false _ depots);
+          whole = record { makers = eqb-true _ _ (not-false _ makers); depots = eqb-true _ _ (not-false _ depots) };
           count = ltb-false _ _ count;
           good = λ r l. lowest-below _ _ r (ltb-false _ _ records) l;
         }
@@ -101,3 +109,36 @@ next-accepted maker depot sheet given out e = named (judge-passes lists (judge-r
           given-length = eqb-true _ _ (not-false _ same-given);
           out-length = eqb-true _ _ (not-false _ same-out);
         }
+
+-- a record that is good for n boxes is good for more
+bad-more : (n m : ℕ) (q : Rec) → n ≤ m → bad n q ≡ false → bad m q ≡ false
+unfolding bad
+bad-more n m q h e = ap reasons (fewer ∙ sym none) ∙ e
+  where
+    reasons : Bool → Bool
+    reasons past =
+        noKind (kindOf (q .kind))
+        || not (eqb (q .byte1) 0)
+        || past
+        || (lacksZ (kindOf (q .kind)) && not (eqb (q .z) 65535))
+        || twoEqual (boxesOf q)
+
+    none : any (leb n) (boxesOf q) ≡ false
+    none = or-false-right (noKind (kindOf (q .kind)) || not (eqb (q .byte1) 0)) _ (or-false-left _ _ (or-false-left _ _ e))
+
+    fewer : any (leb m) (boxesOf q) ≡ false
+    fewer =
+        false-T _
+        (λ t.
+        let found = any-member (leb m) (boxesOf q) t in
+        subst T none (any-of (leb n) (found .1) (le→leb n (found .0) (omega (arith, leb→le m (found .0) (found .2))))))
+
+-- so tables that are accepted with some boxes are accepted with 256
+pub accepted-all : {n : ℕ} {maker depot : List ℕ} → Accepted n maker depot → Accepted 256 maker depot
+accepted-all {n} {maker} {depot} tables =
+    record {
+      boxes = omega arith;
+      whole = tables .whole;
+      count = tables .count;
+      good = λ r l. bad-more n 256 (recordAt maker depot r) (tables .boxes) (tables .good r l);
+    }

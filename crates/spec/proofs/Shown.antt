@@ -56,7 +56,7 @@ module _ (maker depot : List ℕ) (number : ℕ) where
   unfolding showsPart
   shown-record l e =
       ap (λ (a : Said Verdict). bytesOf maker depot (partFor maker a)) e
-      ∙ record-bytes (broken-is maker depot l number (sym e) .accepted .makers)
+      ∙ record-bytes (broken-is maker depot l number (sym e) .accepted .whole .makers)
 
 -- an answer that names no record
 abbrev pub NamesNone : Said Verdict → Type 0
