@@ -1,10 +1,10 @@
 -- What the checks of form say.
 -- Assumes nothing.
-use Rattle.spec.specs.Refusals.{Said, passed}
-use Rattle.answers.specs.Says.{refusalSays}
+use Rattle.spec.specs.Refusals.{Said, refused, passed}
+use Rattle.refusals.specs.Refusing.{refusalOf}
 use Rattle.accept.specs.declared.Form.{Form}
 use Rattle.accept.specs.declared.Form.the-variants.{Passed, Refused}
 
-abbrev pub formSays : Form → Said
+abbrev pub formSays : Form → Said (Unit {0})
 formSays Passed = passed
-formSays (Refused r) = refusalSays r
+formSays (Refused why) = refused (refusalOf why)

@@ -7,11 +7,16 @@ ghost use Rattle.lemmas.specs.Lowest.{lowest};
 ghost use Rattle.spec.specs.Records.{recordAt, recordCount, bad};
 ghost use Rattle.spec.specs.Refusals.{passed, judge, tableChecks, sheetCheck, givenCheck, outCheck, listCheck, sheetChecks, orderChecks, nextChecks};
 ghost use Rattle.spec.specs.Fits.{testChecks};
-ghost use Rattle.records.specs.Record.{WholeRecords};
+ghost use Rattle.spec.proofs.Accepted.{WholeRecords};
 ghost use Rattle.accept.specs.Form.{formSays};
-use answers::Refusal;
+use records::count;
 use records::is_bad;
 use records::record_at;
+use refusals::Refusal;
+
+const MOST_BOXES: usize = 256;
+
+const MOST_RECORDS: usize = 1024;
 
 pub enum Form {
     Passed,
@@ -23,9 +28,9 @@ fn first_bad<'a>(maker: &'a [u8], depot: &'a [u8], n: usize) -> usize
     requires { ⌜ WholeRecords (now maker) (now depot) ⌝ }
     ensures { λ r. ⌜ r ≡ lowest (λ i. bad n (recordAt (now (maker .entry)) (now (depot .entry)) i)) (recordCount (now (maker .entry)) (now (depot .entry))) ⌝ }
 {
-    let count = maker.len() / 8 + depot.len() / 8;
+    let records = count(maker, depot);
     let mut i = 0;
-    while i < count {
+    while i < records {
         if is_bad(n, record_at(maker, depot, i)) {
             return i;
         }
@@ -48,11 +53,11 @@ fn first_above(s: &[u8], top: u8) -> usize
     i
 }
 
-// 1, 2, 3
-fn check_tables<'a>(maker: &'a [u8], depot: &'a [u8], n: usize) -> Form
+// The tables, with n boxes: 1, 2, 3.
+pub fn check_tables<'a>(maker: &'a [u8], depot: &'a [u8], n: usize) -> Form
     ensures { λ r. ⌜ formSays r ≡ judge (tableChecks n (now (maker .entry)) (now (depot .entry))) passed ⌝ }
 {
-    if 256 < n {
+    if MOST_BOXES < n {
         return Form::Refused(Refusal::Boxes);
     }
     if maker.len() % 8 != 0 {
@@ -61,18 +66,18 @@ fn check_tables<'a>(maker: &'a [u8], depot: &'a [u8], n: usize) -> Form
     if depot.len() % 8 != 0 {
         return Form::Refused(Refusal::DepotLength);
     }
-    let count = maker.len() / 8 + depot.len() / 8;
-    if 1024 < count {
+    let records = count(maker, depot);
+    if MOST_RECORDS < records {
         return Form::Refused(Refusal::RecordCount);
     }
     let i = first_bad(maker, depot, n);
-    if i < count {
+    if i < records {
         return Form::Refused(Refusal::BadRecord(i));
     }
     Form::Passed
 }
 
-// 4
+// The sheet's bytes: 4.
 fn check_sheet(sheet: &[u8]) -> Form
     ensures { λ r. ⌜ formSays r ≡ judge (sheetCheck (now (sheet .entry)) ∷ []) passed ⌝ }
 {
@@ -83,7 +88,7 @@ fn check_sheet(sheet: &[u8]) -> Form
     Form::Passed
 }
 
-// 6
+// A full list's bytes: 6.
 fn check_list(list: &[u8]) -> Form
     ensures { λ r. ⌜ formSays r ≡ judge (listCheck (now (list .entry)) ∷ []) passed ⌝ }
 {
@@ -94,7 +99,7 @@ fn check_list(list: &[u8]) -> Form
     Form::Passed
 }
 
-// Test and Show: 1, 2, 3, 6
+// Test and Show: 1, 2, 3, 6.
 pub fn check_test<'a>(maker: &'a [u8], depot: &'a [u8], list: &[u8]) -> Form
     ensures { λ r. ⌜ formSays r ≡ judge (testChecks (now (maker .entry)) (now (depot .entry)) (now (list .entry))) passed ⌝ }
 {
@@ -105,7 +110,7 @@ pub fn check_test<'a>(maker: &'a [u8], depot: &'a [u8], list: &[u8]) -> Form
     check_list(list)
 }
 
-// 5, place 0
+// The given list's length: 5 at place 0.
 fn check_given(given: &[u8], n: usize) -> Form
     ensures { λ r. ⌜ formSays r ≡ judge (givenCheck n (now (given .entry)) ∷ []) passed ⌝ }
 {
@@ -115,8 +120,8 @@ fn check_given(given: &[u8], n: usize) -> Form
     Form::Passed
 }
 
-// 5, place 1
-fn check_out(out: &[u8], n: usize) -> Form
+// The out buffer's length: 5 at place 1.
+pub fn check_out(out: &[u8], n: usize) -> Form
     ensures { λ r. ⌜ formSays r ≡ judge (outCheck n (now (out .entry)) ∷ []) passed ⌝ }
 {
     if out.len() != n {
@@ -125,8 +130,8 @@ fn check_out(out: &[u8], n: usize) -> Form
     Form::Passed
 }
 
-// 1, 2, 3, 4
-fn check_sheet_call<'a>(maker: &'a [u8], depot: &'a [u8], sheet: &[u8]) -> Form
+// Tables and sheet, with which every call of an order begins: 1, 2, 3, 4.
+pub fn check_sheet_call<'a>(maker: &'a [u8], depot: &'a [u8], sheet: &[u8]) -> Form
     ensures { λ r. ⌜ formSays r ≡ judge (sheetChecks (now (maker .entry)) (now (depot .entry)) (now (sheet .entry))) passed ⌝ }
 {
     let tables = check_tables(maker, depot, sheet.len());
@@ -136,7 +141,7 @@ fn check_sheet_call<'a>(maker: &'a [u8], depot: &'a [u8], sheet: &[u8]) -> Form
     check_sheet(sheet)
 }
 
-// Fill and First: 1, 2, 3, 4, 5 at place 1
+// Fill and First: 1, 2, 3, 4, 5 at place 1.
 pub fn check_order<'a>(maker: &'a [u8], depot: &'a [u8], sheet: &[u8], out: &[u8]) -> Form
     ensures { λ r. ⌜ formSays r ≡ judge (orderChecks (now (maker .entry)) (now (depot .entry)) (now (sheet .entry)) (now (out .entry))) passed ⌝ }
 {
@@ -147,7 +152,7 @@ pub fn check_order<'a>(maker: &'a [u8], depot: &'a [u8], sheet: &[u8], out: &[u8
     check_out(out, sheet.len())
 }
 
-// 5 at place 1, 6
+// Next's out buffer and the bytes of its given list: 5 at place 1, 6.
 fn check_out_and_list(given: &[u8], n: usize, out: &[u8]) -> Form
     ensures { λ r. ⌜ formSays r ≡ judge (outCheck n (now (out .entry)) ∷ listCheck (now (given .entry)) ∷ []) passed ⌝ }
 {
@@ -158,7 +163,7 @@ fn check_out_and_list(given: &[u8], n: usize, out: &[u8]) -> Form
     check_list(given)
 }
 
-// 5 at places 0 and 1, 6
+// What Next is given besides tables and sheet: 5 at places 0 and 1, 6.
 fn check_lists(given: &[u8], n: usize, out: &[u8]) -> Form
     ensures { λ r. ⌜ formSays r ≡ judge (givenCheck n (now (given .entry)) ∷ outCheck n (now (out .entry)) ∷ listCheck (now (given .entry)) ∷ []) passed ⌝ }
 {
@@ -169,7 +174,7 @@ fn check_lists(given: &[u8], n: usize, out: &[u8]) -> Form
     check_out_and_list(given, n, out)
 }
 
-// Next: 1, 2, 3, 4, 5 at places 0 and 1, 6
+// Next: 1, 2, 3, 4, 5 at places 0 and 1, 6.
 pub fn check_next<'a>(
     maker: &'a [u8],
     depot: &'a [u8],

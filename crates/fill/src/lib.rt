@@ -1,16 +1,42 @@
 // The public operation Fill: the checks, the engine, and what is written.
-ghost use Rattle.fill.specs.Answer.{FormPassed, Fillable, FillsTo, FillDoes};
+ghost use mathlib.Core.Path.{_≡_};
+ghost use lib.ListN.{length};
+ghost use Rattle.spec.proofs.Accepted.{WholeRecords, AcceptedSheet};
+ghost use Rattle.refusals.specs.Numbering.{doneWith, numbersOf, inOrder};
+ghost use Rattle.fill.specs.Answer.{filledSays, FillsTo, FillDoes, FillDoesInForm};
 use accept::Form;
 use accept::check_order;
-use answers::Filled;
 use broken::first_broken;
 use engine::run;
+use records::count;
+use refusals::Numbers;
+use refusals::Refusal;
+use refusals::done;
+use refusals::of_refusal;
+use refusals::refused;
 use sheet::count_filled;
 use sheet::count_open;
 use sheet::load;
 use sheet::store;
 use tables::Tables;
-use tables::carry;
+
+pub enum Filled {
+    Boxes(usize),
+    Clash,
+    Broken(usize),
+    Refused(Refusal),
+}
+
+pub fn numbers(answer: Filled) -> Numbers
+    ensures { λ r. ⌜ inOrder r ≡ numbersOf doneWith (filledSays answer) ⌝ }
+{
+    match answer {
+        Filled::Boxes(count) => done(count),
+        Filled::Clash => refused(7, 0),
+        Filled::Broken(number) => refused(8, number),
+        Filled::Refused(why) => of_refusal(why),
+    }
+}
 
 // A filled sheet with no open box is tested once more before it is written.
 fn hand_out<'a>(
@@ -20,14 +46,14 @@ fn hand_out<'a>(
     filled: &[u8],
     out: &mut [u8],
 ) -> Filled
-    requires { ⌜ FormPassed (now maker) (now depot) (now sheet) (now out) ⌝ }
+    requires { ⌜ WholeRecords (now maker) (now depot) ⌝ }
     requires { ⌜ FillsTo (now maker) (now depot) (now sheet) (now filled) ⌝ }
-    ensures { λ r. ⌜ FillDoes (now (maker .entry)) (now (depot .entry)) (now (sheet .entry)) (now (out .entry)) r (now (out .exit)) ⌝ }
+    requires { ⌜ length (now out) ≡ length (now sheet) ⌝ }
+    ensures { λ r. ⌜ FillDoesInForm (now (maker .entry)) (now (depot .entry)) (now (sheet .entry)) (now (out .entry)) r (now (out .exit)) ⌝ }
 {
     if count_open(filled) == 0 {
-        let count = maker.len() / 8 + depot.len() / 8;
-        let i = first_broken(maker, depot, count, filled);
-        if i < count {
+        let i = first_broken(maker, depot, filled);
+        if i < count(maker, depot) {
             return Filled::Broken(i);
         }
     }
@@ -43,8 +69,9 @@ fn fill_accepted<'a>(
     sheet: &[u8],
     out: &mut [u8],
 ) -> Filled
-    requires { ⌜ Fillable n (now maker) (now depot) (now sheet) (now out) ⌝ }
-    ensures { λ r. ⌜ FillDoes (now (maker .entry)) (now (depot .entry)) (now (sheet .entry)) (now (out .entry)) r (now (out .exit)) ⌝ }
+    requires { ⌜ AcceptedSheet n (now maker) (now depot) (now sheet) ⌝ }
+    requires { ⌜ length (now out) ≡ n ⌝ }
+    ensures { λ r. ⌜ FillDoesInForm (now (maker .entry)) (now (depot .entry)) (now (sheet .entry)) (now (out .entry)) r (now (out .exit)) ⌝ }
 {
     let loaded = load(sheet);
     let mut states = loaded.states;
@@ -54,15 +81,7 @@ fn fill_accepted<'a>(
     hand_out(maker, depot, sheet, &states[..n], out)
 }
 
-// The same over tables that are carried.
-fn fill_tables<'a>(t: Tables<'a>, sheet: &[u8], out: &mut [u8]) -> Filled
-    requires { ⌜ Fillable (t .n) (now (t .maker)) (now (t .depot)) (now sheet) (now out) ⌝ }
-    ensures { λ r. ⌜ FillDoes (now (t .entry .maker)) (now (t .entry .depot)) (now (sheet .entry)) (now (out .entry)) r (now (out .exit)) ⌝ }
-{
-    fill_accepted(t.maker, t.depot, t.n, sheet, out)
-}
-
-// Puts the accepted tables and the number of boxes together. They are carried from here on.
+// The accepted tables and the number of boxes, put together: the rest of the operation is given their parts.
 fn fill_carried<'a>(
     maker: &'a [u8],
     depot: &'a [u8],
@@ -70,10 +89,12 @@ fn fill_carried<'a>(
     sheet: &[u8],
     out: &mut [u8],
 ) -> Filled
-    requires { ⌜ Fillable n (now maker) (now depot) (now sheet) (now out) ⌝ }
-    ensures { λ r. ⌜ FillDoes (now (maker .entry)) (now (depot .entry)) (now (sheet .entry)) (now (out .entry)) r (now (out .exit)) ⌝ }
+    requires { ⌜ AcceptedSheet n (now maker) (now depot) (now sheet) ⌝ }
+    requires { ⌜ length (now out) ≡ n ⌝ }
+    ensures { λ r. ⌜ FillDoesInForm (now (maker .entry)) (now (depot .entry)) (now (sheet .entry)) (now (out .entry)) r (now (out .exit)) ⌝ }
 {
-    fill_tables(carry(maker, depot, n), sheet, out)
+    let t = Tables { maker, depot, n };
+    fill_accepted(t.maker, t.depot, t.n, sheet, out)
 }
 
 pub fn fill<'a>(maker: &'a [u8], depot: &'a [u8], sheet: &[u8], out: &mut [u8]) -> Filled

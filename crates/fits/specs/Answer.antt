@@ -1,17 +1,25 @@
--- What Test says of accepted tables; and what it is to show a part of one of two lent tables.
+-- Test's answer: what every case of it says, and its numbers; and what it is to show a part of one of two lent tables.
 -- Assumes nothing.
 use mathlib.Core.Path.{_≡_}
 use mathlib.Core.Bool.{cond}
-use mathlib.Core.List.{List}
+use mathlib.Core.List.{List, [], _∷_}
 use Prim.Native.Nat.{ℕ, _+_}
 use denote.Ref.{RefT, now, ptr}
-use Rattle.spec.specs.Refusals.{Said}
-use Rattle.spec.specs.Records.{recordCount}
-use Rattle.spec.specs.Fits.{firstBroken, tested, Part, bytesOf}
+use Rattle.spec.specs.Refusals.{Said, refused, answered}
+use Rattle.spec.specs.Fits.{Verdict, fits, broken, Part, bytesOf}
+use Rattle.refusals.specs.Refusing.{refusalOf}
+use Rattle.refusals.specs.Numbering.{doneWith}
+use Rattle.fits.specs.declared.Tested.{Tested}
+use Rattle.fits.specs.declared.Tested.the-variants.{Fits, Broken, Refused}
 
--- what Test says of accepted tables and a full list
-abbrev pub judged : (maker depot l : List ℕ) → Said
-judged maker depot l = tested (recordCount maker depot) (firstBroken maker depot l)
+abbrev pub testedSays : Tested → Said Verdict
+testedSays Fits = answered fits
+testedSays (Broken number) = answered (broken number)
+testedSays (Refused why) = refused (refusalOf why)
+
+abbrev pub verdictNumbers : Verdict → List ℕ
+verdictNumbers fits = doneWith 0
+verdictNumbers (broken number) = 2 ∷ number ∷ 0 ∷ []
 
 -- the part lies in the table that it names, where it says (a place is a block and an offset in it), and has that table's bytes
 pub record Shows (maker depot : RefT (List ℕ)) (part : Part) (r : RefT (List ℕ)) : Type 0 where

@@ -1,45 +1,57 @@
 // Test and Show: whether a full list fits every rule, the first record that it breaks, and that record's bytes.
 ghost use mathlib.Core.Path.{_≡_};
-ghost use Rattle.spec.specs.Fits.{testSays, partFor, showsPart};
+ghost use Rattle.spec.specs.Fits.{testJudges, testSays, partFor, showsPart};
 ghost use Rattle.spec.proofs.Accepted.{Accepted};
-ghost use Rattle.tables.specs.Carried.{Carried};
-ghost use Rattle.broken.specs.Counted.{Counted};
-ghost use Rattle.answers.specs.Says.{testedSays};
-ghost use Rattle.fits.specs.Answer.{judged, Shows};
+ghost use Rattle.refusals.specs.Numbering.{numbersOf, inOrder};
+ghost use Rattle.fits.specs.Answer.{testedSays, verdictNumbers, Shows};
 use accept::Form;
 use accept::check_test;
-use answers::Tested;
 use broken::first_broken;
+use records::count;
+use records::place_of;
+use refusals::BROKEN;
+use refusals::Numbers;
+use refusals::Refusal;
+use refusals::done;
+use refusals::of_refusal;
+use refusals::three;
 use tables::Tables;
-use tables::carry;
-use tables::count;
+
+pub enum Tested {
+    Fits,
+    Broken(usize),
+    Refused(Refusal),
+}
+
+pub fn numbers(answer: Tested) -> Numbers
+    ensures { λ r. ⌜ inOrder r ≡ numbersOf verdictNumbers (testedSays answer) ⌝ }
+{
+    match answer {
+        Tested::Fits => done(0),
+        Tested::Broken(number) => three(BROKEN, number, 0),
+        Tested::Refused(why) => of_refusal(why),
+    }
+}
 
 // What Test has left to say once the checks have passed.
-fn test_accepted<'a>(maker: &'a [u8], depot: &'a [u8], count: usize, list: &[u8]) -> Tested
-    requires { ⌜ Counted (now maker) (now depot) count ⌝ }
-    ensures { λ r. ⌜ testedSays r ≡ judged (now (maker .entry)) (now (depot .entry)) (now (list .entry)) ⌝ }
+fn test_accepted<'a>(maker: &'a [u8], depot: &'a [u8], n: usize, list: &[u8]) -> Tested
+    requires { ⌜ Accepted n (now maker) (now depot) ⌝ }
+    ensures { λ r. ⌜ testedSays r ≡ testJudges (now (maker .entry)) (now (depot .entry)) (now (list .entry)) ⌝ }
 {
-    let i = first_broken(maker, depot, count, list);
-    if i < count {
+    let i = first_broken(maker, depot, list);
+    if i < count(maker, depot) {
         return Tested::Broken(i);
     }
     Tested::Fits
 }
 
-// The same over tables that are carried.
-fn test_tables<'a>(t: Tables<'a>, list: &[u8]) -> Tested
-    requires { ⌜ Carried t ⌝ }
-    ensures { λ r. ⌜ testedSays r ≡ judged (now (t .entry .maker)) (now (t .entry .depot)) (now (list .entry)) ⌝ }
-{
-    test_accepted(t.maker, t.depot, count(t), list)
-}
-
-// Puts the accepted tables and the number of boxes together. They are carried from here on.
+// The accepted tables and the number of boxes, put together: the rest of the operation is given their parts.
 fn test_carried<'a>(maker: &'a [u8], depot: &'a [u8], n: usize, list: &[u8]) -> Tested
     requires { ⌜ Accepted n (now maker) (now depot) ⌝ }
-    ensures { λ r. ⌜ testedSays r ≡ judged (now (maker .entry)) (now (depot .entry)) (now (list .entry)) ⌝ }
+    ensures { λ r. ⌜ testedSays r ≡ testJudges (now (maker .entry)) (now (depot .entry)) (now (list .entry)) ⌝ }
 {
-    test_tables(carry(maker, depot, n), list)
+    let t = Tables { maker, depot, n };
+    test_accepted(t.maker, t.depot, t.n, list)
 }
 
 pub fn test<'a>(maker: &'a [u8], depot: &'a [u8], list: &[u8]) -> Tested
@@ -54,38 +66,30 @@ pub fn test<'a>(maker: &'a [u8], depot: &'a [u8], list: &[u8]) -> Tested
 
 // What Show has left to show once the checks have passed. The empty part at the start of the maker's table stands for every answer of
 // Test that names no record.
-fn show_accepted<'a>(maker: &'a [u8], depot: &'a [u8], count: usize, list: &[u8]) -> &'a [u8]
-    requires { ⌜ Counted (now maker) (now depot) count ⌝ }
-    ensures { λ r. ⌜ Shows (maker .entry) (depot .entry) (partFor (now (maker .entry)) (judged (now (maker .entry)) (now (depot .entry)) (now (list .entry)))) r ⌝ }
+fn show_accepted<'a>(maker: &'a [u8], depot: &'a [u8], n: usize, list: &[u8]) -> &'a [u8]
+    requires { ⌜ Accepted n (now maker) (now depot) ⌝ }
+    ensures { λ r. ⌜ Shows (maker .entry) (depot .entry) (partFor (now (maker .entry)) (testJudges (now (maker .entry)) (now (depot .entry)) (now (list .entry)))) r ⌝ }
 {
-    let i = first_broken(maker, depot, count, list);
-    if i < count {
-        let at = 8 * i;
-        if at < maker.len() {
-            let end = at + 8;
-            return &maker[at..end];
-        }
-        let start = at - maker.len();
+    let i = first_broken(maker, depot, list);
+    if i < count(maker, depot) {
+        let place = place_of(maker, i);
+        let start = place.start;
         let end = start + 8;
-        return &depot[start..end];
+        if place.depots {
+            return &depot[start..end];
+        }
+        return &maker[start..end];
     }
     &maker[0..0]
 }
 
-// The same over tables that are carried.
-fn show_tables<'a>(t: Tables<'a>, list: &[u8]) -> &'a [u8]
-    requires { ⌜ Carried t ⌝ }
-    ensures { λ r. ⌜ Shows (t .entry .maker) (t .entry .depot) (partFor (now (t .entry .maker)) (judged (now (t .entry .maker)) (now (t .entry .depot)) (now (list .entry)))) r ⌝ }
-{
-    show_accepted(t.maker, t.depot, count(t), list)
-}
-
-// Puts the accepted tables and the number of boxes together. They are carried from here on.
+// As for Test.
 fn show_carried<'a>(maker: &'a [u8], depot: &'a [u8], n: usize, list: &[u8]) -> &'a [u8]
     requires { ⌜ Accepted n (now maker) (now depot) ⌝ }
-    ensures { λ r. ⌜ Shows (maker .entry) (depot .entry) (partFor (now (maker .entry)) (judged (now (maker .entry)) (now (depot .entry)) (now (list .entry)))) r ⌝ }
+    ensures { λ r. ⌜ Shows (maker .entry) (depot .entry) (partFor (now (maker .entry)) (testJudges (now (maker .entry)) (now (depot .entry)) (now (list .entry)))) r ⌝ }
 {
-    show_tables(carry(maker, depot, n), list)
+    let t = Tables { maker, depot, n };
+    show_accepted(t.maker, t.depot, t.n, list)
 }
 
 pub fn show<'a>(maker: &'a [u8], depot: &'a [u8], list: &[u8]) -> &'a [u8]

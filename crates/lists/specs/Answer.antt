@@ -1,34 +1,37 @@
--- First's and Next's promises.
+-- First's and Next's answer: what every case of it says; and their promises.
 -- Assumes nothing.
 use mathlib.Core.Path.{_≡_}
 use mathlib.Core.Bool.{Bool, true, false}
 use mathlib.Core.List.{List}
-use lib.ListN.{length}
 use Prim.Native.Nat.{ℕ}
-use Rattle.spec.specs.Refusals.{passed, judge, sheetChecks}
 use Rattle.spec.specs.Records.{rulesIn}
-use Rattle.spec.specs.Kits.{firstSays, firstWrites, nextSays, nextWrites}
+use Rattle.spec.specs.Refusals.{reason, Said, refused, Does}
+use Rattle.spec.specs.Kits.{handedOut, firstSays, firstWrites, nextSays, nextWrites}
 use Rattle.kits.specs.Order.{AnswerTo}
 use Rattle.kits.specs.Kit.{Wanted}
-use Rattle.answers.specs.Says.{listedSays}
-use Rattle.answers.specs.declared.Listed.{Listed}
+use Rattle.refusals.specs.Refusing.{refusalOf}
+use Rattle.refusals.specs.Numbering.{doneWith}
+use Rattle.lists.specs.declared.Listed.{Listed}
+use Rattle.lists.specs.declared.Listed.the-variants as listed
+
+abbrev pub listedSays : Listed → Said (Unit {0})
+listedSays listed.List = handedOut
+listedSays listed.None = refused (reason 9 0)
+listedSays (listed.Refused why) = refused (refusalOf why)
+
+-- a list is handed out, and there is nothing to count
+abbrev pub handedNumbers : Unit {0} → List ℕ
+handedNumbers _ = doneWith 0
 
 -- First's promise: the answer, and every byte of the out buffer
-pub record FirstDoes (maker depot sheet out : List ℕ) (answer : Listed) (left : List ℕ) : Type 0 where
-  pub says : listedSays answer ≡ firstSays maker depot sheet out
-  pub writes : left ≡ firstWrites maker depot sheet out
+abbrev pub FirstDoes : (maker depot sheet out : List ℕ) → Listed → List ℕ → Type 0
+FirstDoes maker depot sheet out answer left =
+    Does (firstSays maker depot sheet out) (firstWrites maker depot sheet out) (listedSays answer) left
 
 -- and Next's
-pub record NextDoes (maker depot sheet given out : List ℕ) (answer : Listed) (left : List ℕ) : Type 0 where
-  pub says : listedSays answer ≡ nextSays maker depot sheet given out
-  pub writes : left ≡ nextWrites maker depot sheet given out
-
--- tables and sheet have passed, n is the sheet's length, and the lists have theirs
-pub record InCall (n : ℕ) (maker depot sheet given : List ℕ) (after : Bool) (out : List ℕ) : Type 0 where
-  pub form : judge (sheetChecks maker depot sheet) passed ≡ passed
-  pub boxes : length sheet ≡ n
-  pub room : length out ≡ n
-  pub size : after ≡ true → length given ≡ n
+abbrev pub NextDoes : (maker depot sheet given out : List ℕ) → Listed → List ℕ → Type 0
+NextDoes maker depot sheet given out answer left =
+    Does (nextSays maker depot sheet given out) (nextWrites maker depot sheet given out) (listedSays answer) left
 
 -- the kit that was asked for is in the buffer, or there is none and the buffer is as it was
 pub record Chosen (n : ℕ) (maker depot sheet given : List ℕ) (after : Bool) (out : List ℕ) (found : Bool) (left : List ℕ) : Type 0 where

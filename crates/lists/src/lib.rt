@@ -1,14 +1,50 @@
 // The public operations First and Next.
-ghost use Rattle.lists.specs.Answer.{FirstDoes, NextDoes, InCall, Chosen};
+ghost use mathlib.Core.Path.{_≡_};
+ghost use mathlib.Core.Bool.{true};
+ghost use lib.ListN.{length};
+ghost use Rattle.spec.specs.Refusals.{isAnswered};
+ghost use Rattle.spec.proofs.Accepted.{AcceptedSheet};
+ghost use Rattle.refusals.specs.Numbering.{numbersOf, inOrder};
+ghost use Rattle.lists.specs.Answer.{listedSays, handedNumbers, FirstDoes, NextDoes, Chosen};
 use accept::Form;
 use accept::check_next;
 use accept::check_order;
-use answers::Listed;
+use refusals::Numbers;
+use refusals::Refusal;
+use refusals::done;
+use refusals::of_refusal;
+use refusals::refused;
 use search::search;
 use sheet::load;
 use sheet::store;
 use tables::Tables;
-use tables::carry;
+
+pub enum Listed {
+    List,
+    None,
+    Refused(Refusal),
+}
+
+pub fn numbers(answer: Listed) -> Numbers
+    ensures { λ r. ⌜ inOrder r ≡ numbersOf handedNumbers (listedSays answer) ⌝ }
+{
+    match answer {
+        Listed::List => done(0),
+        Listed::None => refused(9, 0),
+        Listed::Refused(why) => of_refusal(why),
+    }
+}
+
+// Whether a list is handed out.
+pub fn is_list(answer: Listed) -> bool
+    ensures { λ r. ⌜ r ≡ isAnswered (listedSays answer) ⌝ }
+{
+    match answer {
+        Listed::List => true,
+        Listed::None => false,
+        Listed::Refused(_) => false,
+    }
+}
 
 // What is left to do once the checks have passed: writes the first kit of the sheet, and if `after` the first strictly after the
 // given list; answers whether there is one.
@@ -21,7 +57,9 @@ fn choose_accepted<'a>(
     after: bool,
     out: &mut [u8],
 ) -> bool
-    requires { ⌜ InCall n (now maker) (now depot) (now sheet) (now given) after (now out) ⌝ }
+    requires { ⌜ AcceptedSheet n (now maker) (now depot) (now sheet) ⌝ }
+    requires { ⌜ length (now out) ≡ n ⌝ }
+    requires { ⌜ (after ≡ true → length (now given) ≡ n) ⌝ }
     ensures { λ r. ⌜ Chosen n (now (maker .entry)) (now (depot .entry)) (now (sheet .entry)) (now (given .entry)) after (now (out .entry)) r (now (out .exit)) ⌝ }
 {
     let answer = search(maker, depot, n, load(sheet), given, after);
@@ -34,15 +72,7 @@ fn choose_accepted<'a>(
     false
 }
 
-// The same over tables that are carried.
-fn choose_tables<'a>(t: Tables<'a>, sheet: &[u8], given: &[u8], after: bool, out: &mut [u8]) -> bool
-    requires { ⌜ InCall (t .n) (now (t .maker)) (now (t .depot)) (now sheet) (now given) after (now out) ⌝ }
-    ensures { λ r. ⌜ Chosen (t .entry .n) (now (t .entry .maker)) (now (t .entry .depot)) (now (sheet .entry)) (now (given .entry)) after (now (out .entry)) r (now (out .exit)) ⌝ }
-{
-    choose_accepted(t.maker, t.depot, t.n, sheet, given, after, out)
-}
-
-// Puts the accepted tables and the number of boxes together. They are carried from here on.
+// The accepted tables and the number of boxes, put together: the rest of the operation is given their parts.
 fn choose_carried<'a>(
     maker: &'a [u8],
     depot: &'a [u8],
@@ -52,10 +82,13 @@ fn choose_carried<'a>(
     after: bool,
     out: &mut [u8],
 ) -> bool
-    requires { ⌜ InCall n (now maker) (now depot) (now sheet) (now given) after (now out) ⌝ }
+    requires { ⌜ AcceptedSheet n (now maker) (now depot) (now sheet) ⌝ }
+    requires { ⌜ length (now out) ≡ n ⌝ }
+    requires { ⌜ (after ≡ true → length (now given) ≡ n) ⌝ }
     ensures { λ r. ⌜ Chosen n (now (maker .entry)) (now (depot .entry)) (now (sheet .entry)) (now (given .entry)) after (now (out .entry)) r (now (out .exit)) ⌝ }
 {
-    choose_tables(carry(maker, depot, n), sheet, given, after, out)
+    let t = Tables { maker, depot, n };
+    choose_accepted(t.maker, t.depot, t.n, sheet, given, after, out)
 }
 
 pub fn first<'a>(maker: &'a [u8], depot: &'a [u8], sheet: &[u8], out: &mut [u8]) -> Listed

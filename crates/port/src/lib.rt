@@ -7,17 +7,20 @@
 //     First  0 0 0 a list is in out     1 NUMBER PLACE refused
 //     Next   as First
 ghost use mathlib.Core.Path.{_≡_};
+ghost use Rattle.spec.specs.Refusals.{Does};
 ghost use Rattle.spec.specs.Fits.{testSays, showsPart};
-ghost use Rattle.answers.specs.Numbering.{threeOf};
-ghost use Rattle.port.specs.Face.{threeOfPart, FillAnswers, FirstAnswers, NextAnswers};
-use answers::BROKEN;
-use answers::of_filled;
-use answers::of_listed;
-use answers::of_tested;
+ghost use Rattle.spec.specs.Fill.{fillSays, fillWrites};
+ghost use Rattle.spec.specs.Kits.{firstSays, firstWrites, nextSays, nextWrites};
+ghost use Rattle.refusals.specs.Numbering.{numbersOf, doneWith};
+ghost use Rattle.fits.specs.Answer.{verdictNumbers};
+ghost use Rattle.lists.specs.Answer.{handedNumbers};
+ghost use Rattle.port.specs.Face.{threeOfPart};
 use desk::fill;
 use desk::first;
 use desk::next;
 use desk::test;
+use records::place_of;
+use refusals::BROKEN;
 
 #[no_mangle]
 pub extern "C" fn angatupyi_test<'a>(
@@ -26,9 +29,9 @@ pub extern "C" fn angatupyi_test<'a>(
     list: &[u8],
     answer: &mut [u64; 3],
 )
-    ensures { λ _. ⌜ now (answer .exit) ≡ threeOf (testSays (now (maker .entry)) (now (depot .entry)) (now (list .entry))) ⌝ }
+    ensures { λ _. ⌜ now (answer .exit) ≡ numbersOf verdictNumbers (testSays (now (maker .entry)) (now (depot .entry)) (now (list .entry))) ⌝ }
 {
-    let said = of_tested(test(maker, depot, list));
+    let said = fits::numbers(test(maker, depot, list));
     *answer = [said.code, said.first, said.second];
 }
 
@@ -42,16 +45,16 @@ pub extern "C" fn angatupyi_show<'a>(
 )
     ensures { λ _. ⌜ now (answer .exit) ≡ threeOfPart (showsPart (now (maker .entry)) (now (depot .entry)) (now (list .entry))) ⌝ }
 {
-    let said = of_tested(test(maker, depot, list));
+    let said = fits::numbers(test(maker, depot, list));
     if said.code != BROKEN {
         *answer = [0, 0, 0];
         return;
     }
-    let at = 8 * (said.first as usize);
-    if at < maker.len() {
-        *answer = [0, at as u64, 8];
+    let place = place_of(maker, said.first as usize);
+    if place.depots {
+        *answer = [1, place.start as u64, 8];
     } else {
-        *answer = [1, (at - maker.len()) as u64, 8];
+        *answer = [0, place.start as u64, 8];
     }
 }
 
@@ -63,9 +66,9 @@ pub extern "C" fn angatupyi_fill<'a>(
     out: &mut [u8],
     answer: &mut [u64; 3],
 )
-    ensures { λ _. ⌜ FillAnswers (now (maker .entry)) (now (depot .entry)) (now (sheet .entry)) (now (out .entry)) (now (answer .exit)) (now (out .exit)) ⌝ }
+    ensures { λ _. ⌜ Does (numbersOf doneWith (fillSays (now (maker .entry)) (now (depot .entry)) (now (sheet .entry)) (now (out .entry)))) (fillWrites (now (maker .entry)) (now (depot .entry)) (now (sheet .entry)) (now (out .entry))) (now (answer .exit)) (now (out .exit)) ⌝ }
 {
-    let said = of_filled(fill(maker, depot, sheet, out));
+    let said = fill::numbers(fill(maker, depot, sheet, out));
     *answer = [said.code, said.first, said.second];
 }
 
@@ -77,9 +80,9 @@ pub extern "C" fn angatupyi_first<'a>(
     out: &mut [u8],
     answer: &mut [u64; 3],
 )
-    ensures { λ _. ⌜ FirstAnswers (now (maker .entry)) (now (depot .entry)) (now (sheet .entry)) (now (out .entry)) (now (answer .exit)) (now (out .exit)) ⌝ }
+    ensures { λ _. ⌜ Does (numbersOf handedNumbers (firstSays (now (maker .entry)) (now (depot .entry)) (now (sheet .entry)) (now (out .entry)))) (firstWrites (now (maker .entry)) (now (depot .entry)) (now (sheet .entry)) (now (out .entry))) (now (answer .exit)) (now (out .exit)) ⌝ }
 {
-    let said = of_listed(first(maker, depot, sheet, out));
+    let said = lists::numbers(first(maker, depot, sheet, out));
     *answer = [said.code, said.first, said.second];
 }
 
@@ -92,8 +95,8 @@ pub extern "C" fn angatupyi_next<'a>(
     out: &mut [u8],
     answer: &mut [u64; 3],
 )
-    ensures { λ _. ⌜ NextAnswers (now (maker .entry)) (now (depot .entry)) (now (sheet .entry)) (now (given .entry)) (now (out .entry)) (now (answer .exit)) (now (out .exit)) ⌝ }
+    ensures { λ _. ⌜ Does (numbersOf handedNumbers (nextSays (now (maker .entry)) (now (depot .entry)) (now (sheet .entry)) (now (given .entry)) (now (out .entry)))) (nextWrites (now (maker .entry)) (now (depot .entry)) (now (sheet .entry)) (now (given .entry)) (now (out .entry))) (now (answer .exit)) (now (out .exit)) ⌝ }
 {
-    let said = of_listed(next(maker, depot, sheet, given, out));
+    let said = lists::numbers(next(maker, depot, sheet, given, out));
     *answer = [said.code, said.first, said.second];
 }

@@ -6,7 +6,7 @@ use Prim.Native.Nat.{ℕ, _≤_}
 use native.Mathlib.Omega.{arith}
 use lib.ListN.{length, take}
 use lib.Seq.{length-take-le}
-use Rattle.report.specs.Turns.{RoomForSheet}
+use Rattle.report.specs.Asking.{RoomForSheet}
 
 -- the first n bytes of a buffer of 256, lent for a sheet
 pub front-size : (n : ℕ) (buffer : List ℕ) → n ≤ 256 → 256 ≡ length buffer → n ≡ length (take n buffer)

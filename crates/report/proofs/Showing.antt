@@ -17,9 +17,9 @@ use Rattle.lemmas.proofs.Reading.{getD-default}
 use Rattle.spec.specs.Kits.{kits, kitsAfter}
 use Rattle.kits.specs.Kit.{IsFull}
 use Rattle.kits.proofs.Runs.{kits-behind, kits-full}
-use Rattle.layout.specs.Listing.{listLine, endLine, lastLine, kitLines}
-use Rattle.report.specs.Turns.{AtHead}
-use Rattle.layout.proofs.Digits.{digits-length}
+use Rattle.report.specs.Listing.{listLine, endLine, lastLine, kitLines}
+use Rattle.report.specs.Asking.{AtHead}
+use Rattle.report.proofs.Digits.{digits-length}
 
 pub line-length : (l : List ℕ) → length (listLine l) ≡ length l + 1
 unfolding listLine

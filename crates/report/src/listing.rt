@@ -5,16 +5,17 @@ ghost use lib.ListN.{length, take};
 ghost use Rattle.io.specs.Counts.{Counts};
 ghost use Rattle.text.specs.Putting.{Put, PutWithin};
 ghost use Rattle.spec.specs.Kits.{kits};
-ghost use Rattle.layout.specs.Listing.{kitLines, listingOf};
-ghost use Rattle.report.specs.Turns.{Listable, RoomForSheet};
-use crate::turns::first_kit;
-use crate::turns::next_kit;
-use answers::REFUSED;
-use layout::put_end;
-use layout::put_header;
-use layout::put_list;
-use layout::put_more;
-use layout::put_refused;
+ghost use Rattle.report.specs.Listing.{kitLines, listingOf, page, listsPage};
+ghost use Rattle.report.specs.Asking.{Listable, RoomForSheet};
+use crate::asking::first_kit;
+use crate::asking::next_kit;
+use refusals::REFUSED;
+use crate::lines::put_end;
+use crate::lines::put_header;
+use crate::lines::put_list;
+use crate::lines::put_more;
+use crate::lines::put_refused;
+use records::count;
 use sheet::count_open;
 
 const MOST_LISTS: usize = 64;
@@ -31,8 +32,8 @@ fn put_kits<'a>(
 ) -> usize
     requires { ⌜ Listable (now maker) (now depot) (now sheet) (now kit) ⌝ }
     requires { ⌜ length (now given) ≡ length (now sheet) ⌝ }
-    requires { ⌜ start + 16500 ≤ length (now out) ⌝ }
-    ensures { λ r. ⌜ PutWithin 16500 (now (out .entry)) start (kitLines (kits (now (maker .entry)) (now (depot .entry)) (now (sheet .entry)))) (now (out .exit)) r ⌝ }
+    requires { ⌜ start + listsPage ≤ length (now out) ⌝ }
+    ensures { λ r. ⌜ PutWithin listsPage (now (out .entry)) start (kitLines (kits (now (maker .entry)) (now (depot .entry)) (now (sheet .entry)))) (now (out .exit)) r ⌝ }
 {
     let mut at = start;
     let mut k: usize = 0;
@@ -64,17 +65,17 @@ fn put_listing<'a>(
     requires { ⌜ RoomForSheet (now sheet) (now filled) ⌝ }
     requires { ⌜ RoomForSheet (now sheet) (now given) ⌝ }
     requires { ⌜ RoomForSheet (now sheet) (now kit) ⌝ }
-    requires { ⌜ 17000 ≤ length (now out) ⌝ }
-    ensures { λ r. ⌜ PutWithin 17000 (now (out .entry)) 0 (listingOf (now (maker .entry)) (now (depot .entry)) (now (sheet .entry))) (now (out .exit)) r ⌝ }
+    requires { ⌜ page ≤ length (now out) ⌝ }
+    ensures { λ r. ⌜ PutWithin page (now (out .entry)) 0 (listingOf (now (maker .entry)) (now (depot .entry)) (now (sheet .entry))) (now (out .exit)) r ⌝ }
 {
-    let said = answers::of_filled(desk::fill(maker, depot, sheet, filled));
-    let first = said.first as usize;
+    let said = fill::numbers(desk::fill(maker, depot, sheet, filled));
     if said.code == REFUSED {
-        return put_refused(out, first, said.second as usize);
+        return put_refused(out, said);
     }
-    let rules = maker.len() / 8 + depot.len() / 8;
+    let rules = count(maker, depot);
+    let boxes = said.first as usize;
     let left = count_open(&filled[..]);
-    let at = put_header(out, sheet.len(), rules, first, left);
+    let at = put_header(out, sheet.len(), rules, boxes, left);
     put_kits(maker, depot, sheet, given, kit, out, at)
 }
 
@@ -98,7 +99,7 @@ fn boxes(sheet: &[u8]) -> usize
 
 // Puts the listing of these tables and this sheet at the start of out, and answers how many bytes it is.
 pub fn listing<'a>(maker: &'a [u8], depot: &'a [u8], sheet: &[u8], out: &mut [u8]) -> usize
-    requires { ⌜ 17000 ≤ length (now out) ⌝ }
+    requires { ⌜ page ≤ length (now out) ⌝ }
     ensures counted { λ r. ⌜ Counts r (now (out .exit)) ⌝ }
     ensures written { λ r. ⌜ take r (now (out .exit)) ≡ listingOf (now (maker .entry)) (now (depot .entry)) (now (sheet .entry)) ⌝ }
     ensures nothing_else { λ r. ⌜ Put (now (out .entry)) 0 (listingOf (now (maker .entry)) (now (depot .entry)) (now (sheet .entry))) (now (out .exit)) r ⌝ }

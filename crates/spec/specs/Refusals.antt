@@ -1,7 +1,7 @@
 -- Numbers and order of checks: the table of refusals, and what an operation says.
 -- Assumes nothing.
 use mathlib.Core.Path.{_≡_}
-use mathlib.Core.Bool.{Bool, cond, not}
+use mathlib.Core.Bool.{Bool, true, false, cond, not}
 use mathlib.Core.List.{List, [], _∷_, _++_}
 use Prim.Native.Nat.{ℕ, _%_}
 use lib.Dec.{ltb, eqb}
@@ -20,6 +20,11 @@ reason number place = numbered number place
 pub data Said (A : Type 0) : Type 0 where
   refused : (why : Refusal) → Said A
   answered : (answer : A) → Said A
+
+-- no refusal
+abbrev pub isAnswered : {A : Type 0} → Said A → Bool
+isAnswered (refused why) = false
+isAnswered (answered answer) = true
 
 -- what checks say where none applies
 abbrev pub passed : Said (Unit {0})

@@ -4,9 +4,9 @@ use mathlib.Core.Path.{sym, ap, _∙_}
 use mathlib.Core.List.{[], _∷_}
 use borrow.Author.Needs.{needs}
 use lib.ListN.{length}
-use Rattle.spec.specs.Refusals.{givenCheck, outCheck, listCheck}
+use Rattle.spec.specs.Refusals.{passed, givenCheck, outCheck, listCheck}
 use Rattle.accept.specs.Form.{formSays}
-use Rattle.answers.proofs.Refused.{chain-refused, chain-passed}
+use Rattle.spec.proofs.Judge.{chain-refused, chain-passed}
 use Rattle.accept.proofs.check_lists.Statement.{statement}
 use Rattle.accept.proofs.check_lists.Tie as tie
 
@@ -19,7 +19,7 @@ enum-known-length c = search needs
 returns : tie.Need-returns
 returns c =
     let start = c .before .before .before .before .before .before in
-    chain-refused (c .before .length .given .0 .0) (givenCheck (start .args .n) (start .args .given .now) ∷ []) (outCheck (start .args .n) (start .args .out .now) ∷ listCheck (start .args .given .now) ∷ [])
+    chain-refused (givenCheck (start .args .n) (start .args .given .now) ∷ []) (outCheck (start .args .n) (start .args .out .now) ∷ listCheck (start .args .given .now) ∷ []) passed
     (ap formSays (sym (c .before .length .given .1)) ∙ c .before .before .before .check-given .ensures)
 
 enum-told : tie.Need-enum-told

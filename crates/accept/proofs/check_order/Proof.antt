@@ -4,9 +4,9 @@ use mathlib.Core.Path.{sym, ap, _∙_}
 use mathlib.Core.List.{[], _∷_}
 use borrow.Author.Needs.{needs}
 use lib.ListN.{length}
-use Rattle.spec.specs.Refusals.{sheetChecks, outCheck}
+use Rattle.spec.specs.Refusals.{passed, sheetChecks, outCheck}
 use Rattle.accept.specs.Form.{formSays}
-use Rattle.answers.proofs.Refused.{chain-refused, chain-passed}
+use Rattle.spec.proofs.Judge.{chain-refused, chain-passed}
 use Rattle.accept.proofs.check_order.Statement.{statement}
 use Rattle.accept.proofs.check_order.Tie as tie
 
@@ -19,7 +19,7 @@ enum-known-form c = search needs
 returns : tie.Need-returns
 returns c =
     let start = c .before .before .before .before .before .before .before .before in
-    chain-refused (c .before .form .given .0 .0) (sheetChecks (start .args .maker .now) (start .args .depot .now) (start .args .sheet .now)) (outCheck (length (start .args .sheet .now)) (start .args .out .now) ∷ [])
+    chain-refused (sheetChecks (start .args .maker .now) (start .args .depot .now) (start .args .sheet .now)) (outCheck (length (start .args .sheet .now)) (start .args .out .now) ∷ []) passed
     (ap formSays (sym (c .before .form .given .1)) ∙ c .before .before .before .check-sheet-call .ensures)
 
 enum-told : tie.Need-enum-told

@@ -3,9 +3,9 @@
 use mathlib.Core.Path.{sym, ap, _∙_}
 use mathlib.Core.List.{[], _∷_}
 use borrow.Author.Needs.{needs}
-use Rattle.spec.specs.Refusals.{outCheck, listCheck}
+use Rattle.spec.specs.Refusals.{passed, outCheck, listCheck}
 use Rattle.accept.specs.Form.{formSays}
-use Rattle.answers.proofs.Refused.{chain-refused, chain-passed}
+use Rattle.spec.proofs.Judge.{chain-refused, chain-passed}
 use Rattle.accept.proofs.check_out_and_list.Statement.{statement}
 use Rattle.accept.proofs.check_out_and_list.Tie as tie
 
@@ -18,7 +18,7 @@ enum-known-room c = search needs
 returns : tie.Need-returns
 returns c =
     let start = c .before .before .before .before .before .before in
-    chain-refused (c .before .room .given .0 .0) (outCheck (start .args .n) (start .args .out .now) ∷ []) (listCheck (start .args .given .now) ∷ [])
+    chain-refused (outCheck (start .args .n) (start .args .out .now) ∷ []) (listCheck (start .args .given .now) ∷ []) passed
     (ap formSays (sym (c .before .room .given .1)) ∙ c .before .before .before .check-out .ensures)
 
 enum-told : tie.Need-enum-told

@@ -4,9 +4,9 @@ use mathlib.Core.Path.{sym, ap, _∙_}
 use mathlib.Core.List.{[], _∷_}
 use borrow.Author.Needs.{needs}
 use lib.ListN.{length}
-use Rattle.spec.specs.Refusals.{tableChecks, sheetCheck}
+use Rattle.spec.specs.Refusals.{passed, tableChecks, sheetCheck}
 use Rattle.accept.specs.Form.{formSays}
-use Rattle.answers.proofs.Refused.{chain-refused, chain-passed}
+use Rattle.spec.proofs.Judge.{chain-refused, chain-passed}
 use Rattle.accept.proofs.check_sheet_call.Statement.{statement}
 use Rattle.accept.proofs.check_sheet_call.Tie as tie
 
@@ -19,7 +19,7 @@ enum-known-tables c = search needs
 returns : tie.Need-returns
 returns c =
     let start = c .before .before .before .before .before .before .before in
-    chain-refused (c .before .tables .given .0 .0) (tableChecks (length (start .args .sheet .now)) (start .args .maker .now) (start .args .depot .now)) (sheetCheck (start .args .sheet .now) ∷ [])
+    chain-refused (tableChecks (length (start .args .sheet .now)) (start .args .maker .now) (start .args .depot .now)) (sheetCheck (start .args .sheet .now) ∷ []) passed
     (ap formSays (sym (c .before .tables .given .1)) ∙ c .before .before .before .check-tables .ensures)
 
 enum-told : tie.Need-enum-told

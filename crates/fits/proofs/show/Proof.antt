@@ -30,7 +30,7 @@ unfolding bytesOf
 returns c =
     let a = c .before .before .before .before .before .before .before .args in
     shows-as
-    (show-refused (a .maker .now) (a .depot .now) (a .list .now) (c .before .enum-told .given .0 .0)
+    (show-refused (a .maker .now) (a .depot .now) (a .list .now)
     (ap formSays (sym (c .before .enum-told .given .1)) ∙ c .before .before .before .check-test .ensures))
     (record { table = refl; offset = refl; bytes = refl })
 

@@ -19,7 +19,7 @@ enum-known-form c = search needs
 returns : tie.Need-returns
 returns c =
     let a = c .before .before .before .before .before .before .before .args in
-    test-refused (a .maker .now) (a .depot .now) (a .list .now) (c .before .form .given .0 .0)
+    test-refused (a .maker .now) (a .depot .now) (a .list .now)
     (ap formSays (sym (c .before .form .given .1)) ∙ c .before .before .before .check-test .ensures)
 
 enum-told : tie.Need-enum-told

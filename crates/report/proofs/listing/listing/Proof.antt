@@ -1,7 +1,7 @@
 -- `report::listing::listing` meets its contract: what is put at the start is the whole listing.
 -- Assumes nothing.
 use borrow.Author.Needs.{needs}
-use Rattle.layout.specs.Listing.{listingOf}
+use Rattle.report.specs.Listing.{listingOf}
 use Rattle.text.proofs.Rooms.{room-front}
 use Rattle.report.proofs.Rooms.{front-size, front-boxed}
 use Rattle.report.proofs.listing.listing.Statement.{statement}

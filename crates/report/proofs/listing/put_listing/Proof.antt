@@ -6,7 +6,7 @@ use Rattle.spec.specs.Kits.{kits}
 use Rattle.text.proofs.Rooms.{room-then, room-within, room-length}
 use Rattle.answers.specs.Says.{filledSays}
 use Rattle.answers.proofs.Codes.{code-refused, filled-done}
-use Rattle.layout.specs.Listing.{kitLines}
+use Rattle.report.specs.Listing.{kitLines}
 use Rattle.report.proofs.Filling.{passed-boxes, filled-passed, listing-filled, listing-refused}
 use borrow.Author.Needs.{needs}
 use Rattle.report.proofs.listing.put_listing.Statement.{statement}

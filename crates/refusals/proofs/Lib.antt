@@ -1,0 +1,2 @@
+pub mod OfForm
+pub mod Told

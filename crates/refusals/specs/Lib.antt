@@ -1,0 +1,3 @@
+pub mod Refusing
+pub mod Numbering
+pub mod Words
