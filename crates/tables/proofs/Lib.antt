@@ -1,3 +1,2 @@
-pub mod Counts
-pub mod Held
-pub mod Walks
+pub mod Straight
+pub mod Through
