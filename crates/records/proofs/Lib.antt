@@ -1,2 +1,3 @@
-pub mod NoKind
+pub mod Numbers
 pub mod Tables
+pub mod Reasons

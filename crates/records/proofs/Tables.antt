@@ -1,14 +1,23 @@
--- A record of the two tables taken as one lies whole in one of them.
+-- A record of the two tables taken as one lies whole in one of them: `recordPart` says in which, and where.
 -- Assumes nothing.
-use mathlib.Core.Path.{_≡_, ap, _∙_}
+use mathlib.Core.Path.{_≡_, refl, ap, _∙_}
+use mathlib.Core.Bool.{Bool, true, false, cond}
 use mathlib.Core.List.{List, _++_}
 use Prim.Native.Nat.{ℕ, _+_, _*_, _-_, _≤_, _<_}
 use native.Mathlib.Nat.{add-zero}
 use native.Mathlib.Omega.{arith}
+use borrow.Author.Tests.{ltb-true, ltb-false}
+use lib.Dec.{ltb}
 use lib.ListN.{length, getD, List·getD-append}
 use lib.Seq.{getD-append-add}
 use Rattle.spec.specs.Records.{recFrom, recordAt, recordCount, word}
-use Rattle.records.specs.Record.{WholeRecords}
+use Rattle.spec.specs.Fits.{Part, recordPart}
+use Rattle.spec.proofs.Accepted.{WholeRecords}
+
+-- the record of this number lies in the part's table, at the part's start
+pub record LiesIn (maker depot : List ℕ) (number : ℕ) (p : Part) : Type 0 where
+  pub within : p .start + 8 ≤ length (cond (p .depots) depot maker)
+  pub read : recordAt maker depot number ≡ recFrom (cond (p .depots) depot maker) (p .start)
 
 -- a record is read from eight bytes alone
 recFrom-same : (t u : List ℕ) (at from : ℕ) → ((k : ℕ) → k < 8 → getD t (at + k) 0 ≡ getD u (from + k) 0) → recFrom t at ≡ recFrom u from
@@ -16,7 +25,7 @@ unfolding recFrom
 recFrom-same t u at from e i =
     record {
       kind = first i;
-      one = e 1 (omega arith) i;
+      byte1 = e 1 (omega arith) i;
       x = word (e 2 (omega arith) i) (e 3 (omega arith) i);
       y = word (e 4 (omega arith) i) (e 5 (omega arith) i);
       z = word (e 6 (omega arith) i) (e 7 (omega arith) i);
@@ -37,24 +46,24 @@ module _ (maker depot : List ℕ) where
       sums : (k : ℕ) → at + k ≡ length maker + (at - length maker + k)
       sums k = omega arith
 
-  module _ (whole : WholeRecords maker depot) (number : ℕ) where
-    -- a record that starts among the maker's bytes ends there
-    pub record-in-maker : 8 * number < length maker → 8 * number + 8 ≤ length maker
-    record-in-maker h = omega (arith, whole .makers)
-
-    pub record-in-depot : number < recordCount maker depot → length maker ≤ 8 * number → 8 * number - length maker + 8 ≤ length depot
+  module _ (whole : WholeRecords maker depot) (number : ℕ) (below : number < recordCount maker depot) where
+    -- the bytes before a record are fewer than both tables'
+    pub record-below : 8 * number < length maker + length depot
     unfolding recordCount
-    record-in-depot l h = omega (arith, whole .makers, whole .depots)
+    record-below = omega (arith, whole .makers, whole .depots)
 
-    -- the bytes before a record of the tables are fewer than both tables'
-    pub record-below : number < recordCount maker depot → 8 * number < length maker + length depot
-    unfolding recordCount
-    record-below l = omega (arith, whole .makers, whole .depots)
-
-    pub recordAt-maker : 8 * number < length maker → recordAt maker depot number ≡ recFrom maker (8 * number)
-    unfolding recordAt
-    recordAt-maker h = recFrom-maker (8 * number) (record-in-maker h)
-
-    pub recordAt-depot : length maker ≤ 8 * number → recordAt maker depot number ≡ recFrom depot (8 * number - length maker)
-    unfolding recordAt
-    recordAt-depot h = recFrom-depot (8 * number) h
+    pub record-lies : LiesIn maker depot number (recordPart maker number)
+    unfolding recordPart recordAt recordCount
+    record-lies = at (ltb (8 * number) (length maker)) refl
+      where
+        at : (makers : Bool) → ltb (8 * number) (length maker) ≡ makers →
+            LiesIn maker depot number
+            (cond makers (record { depots = false; start = 8 * number; size = 8 })
+            (record { depots = true; start = 8 * number - length maker; size = 8 }))
+        at true e =
+            -- a record that starts among the maker's bytes ends there
+            let ends : 8 * number + 8 ≤ length maker = omega (arith, whole .makers, ltb-true (8 * number) (length maker) e) in
+            record { within = ends; read = recFrom-maker (8 * number) ends }
+        at false e =
+            let starts : length maker ≤ 8 * number = ltb-false _ _ e in
+            record { within = omega (arith, whole .makers, whole .depots); read = recFrom-depot (8 * number) starts }

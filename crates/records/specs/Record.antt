@@ -1,19 +1,13 @@
--- A record as the code holds it, as a record of the paper.
+-- A record as the code holds it, as a record of the paper, and where it lies, as a part of a table.
 -- Assumes nothing.
-use mathlib.Core.Path.{_≡_}
-use mathlib.Core.List.{List}
-use Prim.Native.Nat.{ℕ, _%_}
-use lib.ListN.{length}
 use Rattle.spec.specs.Records.{Rec}
+use Rattle.spec.specs.Fits.{Part}
 use Rattle.records.specs.declared.Record.{Record}
-
-abbrev pub recOf : (kind one x y z : ℕ) → Rec
-recOf kind one x y z = record { kind = kind; one = one; x = x; y = y; z = z }
+use Rattle.records.specs.declared.Where.{Where}
 
 abbrev pub asRec : Record → Rec
-asRec q = recOf (q .kind) (q .one) (q .x) (q .y) (q .z)
+asRec q = record { kind = q .kind; byte1 = q .byte1; x = q .x; y = q .y; z = q .z }
 
--- both tables hold whole records
-pub record WholeRecords (maker depot : List ℕ) : Type 0 where
-  pub makers : length maker % 8 ≡ 0
-  pub depots : length depot % 8 ≡ 0
+-- a record is eight bytes
+abbrev pub partOf : Where → Part
+partOf w = record { depots = w .depots; start = w .start; size = 8 }

@@ -1,17 +1,63 @@
-// A rule record, read by value from the two tables, and whether it is bad.
+// A rule record: where it lies in the two tables, its eight bytes read by value, whether it is bad, and whether it is a rule.
+pub mod kinds;
+pub mod states;
+
 ghost use mathlib.Core.Path.{_≡_};
-ghost use Prim.Native.Nat.{_+_, _*_, _≤_, _<_};
+ghost use Prim.Native.Nat.{_+_, _*_, _^_, _≤_, _<_};
 ghost use lib.ListN.{length};
-ghost use Rattle.spec.specs.Records.{recFrom, recordAt, recordCount, bad};
-ghost use Rattle.records.specs.Record.{recOf, asRec, WholeRecords};
+ghost use Rattle.spec.specs.Records.{recFrom, recordAt, recordCount, isRule, bad};
+ghost use Rattle.spec.specs.Fits.{recordPart};
+ghost use Rattle.spec.proofs.Accepted.{WholeRecords};
+ghost use Rattle.records.specs.Record.{asRec, partOf};
+use kinds::has_z;
+use kinds::is_kind;
+
+// The bytes of a record.
+const SIZE: usize = 8;
+
+// What stands for z where a kind has none.
+const NO_BOX: usize = 65535;
 
 // The eight bytes of a record: kind, byte 1, and the boxes x, y, z.
 pub struct Record {
     pub kind: u8,
-    pub one: u8,
+    pub byte1: u8,
     pub x: usize,
     pub y: usize,
     pub z: usize,
+}
+
+// Where a record starts: in the maker's table or the depot's, and at which byte of it.
+pub struct Where {
+    pub depots: bool,
+    pub start: usize,
+}
+
+// How many records both tables hold together.
+pub fn count<'a>(maker: &'a [u8], depot: &'a [u8]) -> usize
+    ensures { λ r. ⌜ r ≡ recordCount (now (maker .entry)) (now (depot .entry)) ⌝ }
+{
+    maker.len() / SIZE + depot.len() / SIZE
+}
+
+// The tables act as one, so a number past the maker's records is one of the depot's. A record's first byte has a number that
+// fits, which every record of two tables in memory has.
+pub fn place_of(maker: &[u8], number: usize) -> Where
+    requires { ⌜ 8 * number < 2 ^ 64 ⌝ }
+    ensures { λ r. ⌜ partOf r ≡ recordPart (now (maker .entry)) number ⌝ }
+{
+    let first = SIZE * number;
+    if first < maker.len() {
+        return Where {
+            depots: false,
+            start: first,
+        };
+    }
+    let start = first - maker.len();
+    Where {
+        depots: true,
+        start,
+    }
 }
 
 // Two bytes, little-endian.
@@ -27,80 +73,61 @@ fn record_from(t: &[u8], at: usize) -> Record
 {
     Record {
         kind: t[at],
-        one: t[at + 1],
+        byte1: t[at + 1],
         x: word(t[at + 2], t[at + 3]),
         y: word(t[at + 4], t[at + 5]),
         z: word(t[at + 6], t[at + 7]),
     }
 }
 
-// The tables act as one, so a number past the maker's records is one of the depot's.
 pub fn record_at<'a>(maker: &'a [u8], depot: &'a [u8], number: usize) -> Record
     requires { ⌜ WholeRecords (now maker) (now depot) ⌝ }
     requires { ⌜ number < recordCount (now maker) (now depot) ⌝ }
     ensures { λ r. ⌜ asRec r ≡ recordAt (now (maker .entry)) (now (depot .entry)) number ⌝ }
 {
-    let at = 8 * number;
-    if at < maker.len() {
-        record_from(maker, at)
+    let place = place_of(maker, number);
+    let start = place.start;
+    if place.depots {
+        record_from(depot, start)
     } else {
-        record_from(depot, at - maker.len())
+        record_from(maker, start)
     }
 }
 
-// Kinds 1 and 2 are bad for the same reasons.
-fn is_bad_pair(n: usize, one: u8, x: usize, y: usize, z: usize) -> bool
-    ensures { λ r. ⌜ r ≡ bad n (recOf 1 one x y z) ⌝ }
+// Whether a record counts as a rule. Every one does; where some do not, it is said here, and `isRule` is the definition.
+pub fn is_rule(q: Record) -> bool
+    ensures { λ r. ⌜ r ≡ isRule (asRec q) ⌝ }
 {
-    if one != 0 {
-        return true;
-    }
-    if n <= x {
-        return true;
-    }
-    if n <= y {
-        return true;
-    }
-    if z != 65535 {
-        return true;
-    }
-    x == y
+    true
 }
 
-// Kinds 3 and 4 are bad for the same reasons.
-fn is_bad_triple(n: usize, one: u8, x: usize, y: usize, z: usize) -> bool
-    ensures { λ r. ⌜ r ≡ bad n (recOf 3 one x y z) ⌝ }
-{
-    if one != 0 {
-        return true;
-    }
-    if n <= x {
-        return true;
-    }
-    if n <= y {
-        return true;
-    }
-    if n <= z {
-        return true;
-    }
-    if x == y {
-        return true;
-    }
-    if x == z {
-        return true;
-    }
-    y == z
-}
-
+// First the reasons that a record of any kind may have, then those on its z.
 pub fn is_bad(n: usize, q: Record) -> bool
     ensures { λ r. ⌜ r ≡ bad n (asRec q) ⌝ }
 {
-    let kind = q.kind;
-    match kind {
-        1 => is_bad_pair(n, q.one, q.x, q.y, q.z),
-        2 => is_bad_pair(n, q.one, q.x, q.y, q.z),
-        3 => is_bad_triple(n, q.one, q.x, q.y, q.z),
-        4 => is_bad_triple(n, q.one, q.x, q.y, q.z),
-        _ => true,
+    if !is_kind(q.kind) {
+        return true;
     }
+    if q.byte1 != 0 {
+        return true;
+    }
+    if n <= q.x {
+        return true;
+    }
+    if n <= q.y {
+        return true;
+    }
+    if q.x == q.y {
+        return true;
+    }
+    if has_z(q.kind) {
+        if n <= q.z {
+            return true;
+        }
+        if q.x == q.z {
+            return true;
+        }
+        return q.y == q.z;
+    }
+    q.z != NO_BOX
 }

@@ -64,8 +64,16 @@ word-requires-3 c κs = search needs
 returns : tie.Need-returns
 unfolding recFrom
 returns c =
-    let start = c .before .before .before .before .before .before .before .before .before .before .before .before in
-    λ i. record { kind = getD (start .args .t .now) (start .args .at) 0; one = getD (start .args .t .now) (start .args .at + 1) 0; x = c .before .before .before .before .before .before .word .ensures i; y = c .before .before .before .word2 .ensures i; z = c .word3 .ensures i }
+    let x-read = c .before .before .before .before .before .before in
+    let y-read = c .before .before .before in
+    let start = x-read .before .before .before .before .before .before in
+    λ i. record {
+      kind = getD (start .args .t .now) (start .args .at) 0;
+      byte1 = getD (start .args .t .now) (start .args .at + 1) 0;
+      x = x-read .word .ensures i;
+      y = y-read .word2 .ensures i;
+      z = c .word3 .ensures i;
+    }
 
 pub record-from-spec : {M : Type 1} → statement M
 record-from-spec =
