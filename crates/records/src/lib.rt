@@ -53,9 +53,10 @@ pub fn place_of(maker: &[u8], number: usize) -> Where
             start: first,
         };
     }
+    let start = first - maker.len();
     Where {
         depots: true,
-        start: first - maker.len(),
+        start,
     }
 }
 

@@ -18,12 +18,12 @@ use Rattle.spec.specs.Kinds.{Place, Z}
 use Rattle.spec.specs.Records.{Rec, boxAt}
 use Rattle.spec.specs.OneRule.{alone}
 use Rattle.spec.specs.Fill.{openCount}
-use Rattle.theory.specs.Steps.{IsSheet, Grown, zMissing, stateZ, statesAt, stepped}
+use Rattle.theory.specs.Steps.{IsSheet, Grown, zMissing, stateZ, statesAt, withStates}
 use Rattle.theory.proofs.States.{sheet-codes, holds-state, settled-holds, open-back}
 use Rattle.theory.proofs.Places.{Names, names-named, alone-apart, good-kind}
-use Rattle.theory.proofs.Storing.{step-at}
+use Rattle.theory.proofs.Storing.{store-at}
 use Rattle.theory.proofs.Embedding.{states-at, one-carried}
-use Rattle.theory.proofs.Stepping.{Turn, states-sheet, turn-codes, turn-keeps, turn-sound, step-grown}
+use Rattle.theory.proofs.Stepping.{RecordFires, states-sheet, new-codes, new-keeps, new-sound, step-grown}
 
 -- the test that counts open boxes, at box b
 abbrev isOpen : List ℕ → ℕ → Bool
@@ -80,35 +80,35 @@ open-set t b v below was small =
     still c (yes e) h = eq-open (getD t c 2) (rw e was)
     still c (no e) h = rw (getD-set-other t b c v 2 e) at h
 
-module _ {qs : List Rec} {n : ℕ} {q : Rec} {s : List ℕ} {x′ y′ z′ : ℕ} (turn : Turn qs n q s x′ y′ z′) where
+module _ {qs : List Rec} {n : ℕ} {q : Rec} {s : List ℕ} {x′ y′ z′ : ℕ} (firing : RecordFires qs n q s x′ y′ z′) where
   -- a new state that is not the old one is that of a named box
   moved-named : (i : ℕ) → (getD (x′ ∷ y′ ∷ z′ ∷ []) i 2 ≡ getD (statesAt q s) i 2 → ⊥) →
       (p : Place) × (i ≡ boxAt (alone (q .kind)) p) × Names q p
   moved-named i differ =
-      let fact = settled-holds (x′ ∷ y′ ∷ z′ ∷ []) i (turn-codes turn) (λ e. differ (e ∙ sym (was-open e))) in
-      let found = one-carried qs s q (turn .member) n (turn .good) i (fact .0) (turn-sound turn i (fact .0) (fact .1)) in
+      let fact = settled-holds (x′ ∷ y′ ∷ z′ ∷ []) i (new-codes firing) (λ e. differ (e ∙ sym (was-open e))) in
+      let found = one-carried qs s q (firing .member) n (firing .good) i (fact .0) (new-sound firing i (fact .0) (fact .1)) in
       (found .0, found .1, found .2)
     where
       was-open : getD (x′ ∷ y′ ∷ z′ ∷ []) i 2 ≡ 2 → getD (statesAt q s) i 2 ≡ 2
-      was-open = open-back (statesAt q s) (x′ ∷ y′ ∷ z′ ∷ []) (sheet-codes (statesAt q s) (states-sheet q s (turn .sheet))) (turn-keeps turn) i
+      was-open = open-back (statesAt q s) (x′ ∷ y′ ∷ z′ ∷ []) (sheet-codes (statesAt q s) (states-sheet q s (firing .sheet))) (new-keeps firing) i
 
-  -- so in a turn that changes a state the open boxes become fewer
+  -- so where a record that fires changes a state the open boxes become fewer
   pub step-falls : IsSheet (x′ ∷ y′ ∷ z′ ∷ []) → (i : ℕ) → (getD (x′ ∷ y′ ∷ z′ ∷ []) i 2 ≡ getD (statesAt q s) i 2 → ⊥) →
-      openCount (stepped q x′ y′ z′ s) < openCount s
+      openCount (withStates q x′ y′ z′ s) < openCount s
   step-falls new i differ =
       let found = moved-named i differ in
-      open-falls (step-grown turn new) (turn .sheet) (boxAt q (found .0))
+      open-falls (step-grown firing new) (firing .sheet) (boxAt q (found .0))
       (λ e.
       differ
       (subst⁻¹ (λ (j : ℕ). getD (x′ ∷ y′ ∷ z′ ∷ []) j 2 ≡ getD (statesAt q s) j 2) (found .1)
-      (sym (step-at q x′ y′ z′ s n (turn .good) (turn .room) (found .0) (found .2))
+      (sym (store-at q x′ y′ z′ s n (firing .good) (firing .room) (found .0) (found .2))
       ∙ e
-      ∙ sym (states-at q s n (turn .good) (found .0) (found .2)))))
+      ∙ sym (states-at q s n (firing .good) (found .0) (found .2)))))
 
   -- a z that is missing stays open
-  pub turn-z : zMissing q ≡ true → z′ ≡ 2
+  pub new-z : zMissing q ≡ true → z′ ≡ 2
   unfolding stateZ boxAt
-  turn-z missing = at (ℕ-discrete z′ 2)
+  new-z missing = at (ℕ-discrete z′ 2)
     where
       was : stateZ q s ≡ 2
       was = rw missing
@@ -118,4 +118,4 @@ module _ {qs : List Rec} {n : ℕ} {q : Rec} {s : List ℕ} {x′ y′ z′ : �
       at (no e) =
           let found = moved-named 2 (λ same. e (same ∙ was)) in
           let here : found .0 ≡ Z = sym (alone-apart (q .kind) Z (found .0) (found .1)) in
-          absurd (rw missing at (names-named q (good-kind n q (turn .good)) Z (rw here at (found .2))))
+          absurd (rw missing at (names-named q (good-kind n q (firing .good)) Z (rw here at (found .2))))

@@ -2,18 +2,16 @@
 -- Assumes nothing.
 use mathlib.Core.Path.{_≡_, refl, sym, ap, _∙_, subst}
 use mathlib.Core.Logic.{⊎-elim}
-use mathlib.Core.Bool.{Bool, true≢false, true, false, not, _||_, _&&_, Bool·beq}
+use mathlib.Core.Bool.{Bool, true, false, not, _||_, _&&_, Bool·beq}
 use mathlib.Core.List.{List, map, List·Memᴰ, List·Memᴰ·head, List·Memᴰ·tail, Memᴰ·cast}
-use Prim.Native.Nat.{ℕ, zero, suc, _<_}
+use Prim.Native.Nat.{ℕ, _<_}
 use native.Mathlib.Omega.{arith}
-use borrow.Author.Tests.{not-true, lt-leb}
 use lib.Dec.{T, leb, eqb, eqb-refl}
-use lib.ListN.{getD, drop}
+use lib.ListN.{getD}
 use Rattle.lemmas.specs.Lists.{all, any}
-use Rattle.lemmas.proofs.Tests.{true-T, or-cases, or-false-left, or-false-right, beq-same}
+use Rattle.lemmas.proofs.Tests.{or-cases, or-false-left, or-false-right, beq-same}
 use Rattle.lemmas.proofs.Members.{all-member, any-member, any-of, map-member}
-use Rattle.lemmas.proofs.Reading.{getD-all}
-use Rattle.spec.specs.Kinds.{Kind, other, Place, X, Y, Z, kinds, kindOf, placesOf}
+use Rattle.spec.specs.Kinds.{Kind, Place, X, Y, Z, kindOf, placesOf}
 use Rattle.spec.specs.Records.{Rec, boxAt, boxesOf, noKind, lacksZ, twoEqual, bad}
 use Rattle.spec.specs.OneRule.{alone}
 use Rattle.spec.proofs.EveryKind.{kind-all, places, place-listed}
@@ -58,16 +56,6 @@ module _ (q : Rec) (real : noKind (kindOf (q .kind)) ≡ false) (p : Place) wher
 
   pub names-named : Names q p → T (named (kindOf (q .kind)) p)
   names-named m = rw same-test at (any-of (samePlace p) m (same-place-refl p))
-
--- of the kinds that exist, 1 and 2 have no z
-lacks-number : (number : ℕ) → noKind (kindOf number) ≡ false → lacksZ (kindOf number) ≡ leb number 2
-unfolding kindOf noKind lacksZ
-lacks-number zero real = absurd (true≢false real)
-lacks-number (suc zero) real = refl
-lacks-number (suc (suc zero)) real = refl
-lacks-number (suc (suc (suc k))) real =
-    not-true _ (true-T _ (getD-all (λ j. not (lacksZ j)) (drop 3 kinds) other tt tt k))
-    ∙ sym (lt-leb (suc (suc (suc k))) 2 (omega arith))
 
 -- the boxes 0, 1, 2 of a record that stands alone
 placeAt : ℕ → Place
@@ -134,6 +122,3 @@ module _ (n : ℕ) (q : Rec) (good : bad n q ≡ false) where
   pub good-z : zMissing q ≡ false → q .z < n
   unfolding boxAt
   good-z there = good-named n q good Z (named-names q good-kind Z (rw there tt))
-
-  pub z-missing : zMissing q ≡ leb (q .kind) 2
-  z-missing = lacks-number (q .kind) good-kind

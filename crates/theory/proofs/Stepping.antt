@@ -1,4 +1,4 @@
--- The turn of one record: what firing it and storing its new states does to a list of states.
+-- One record fires: what that, and storing its new states, does to a list of states.
 -- Assumes nothing.
 use mathlib.Core.Path.{_≡_, refl, sym, subst⁻¹}
 use mathlib.Core.Logic.{⊎-elim}
@@ -18,11 +18,11 @@ use Rattle.spec.proofs.Least.{Inside}
 use Rattle.spec.proofs.Named.{Within}
 use Rattle.spec.proofs.Codes.{Codes}
 use Rattle.spec.proofs.Closed.{closed-codes, closed-keeps, closed-sound, closed-closed}
-use Rattle.theory.specs.Steps.{IsSheet, Stable, Grown, zMissing, stateZ, statesAt, Fired, stepped}
+use Rattle.theory.specs.Steps.{IsSheet, Stable, Grown, zMissing, stateZ, statesAt, NewStates, withStates}
 use Rattle.theory.proofs.States.{sheet-codes, holds-same, both-holds}
 use Rattle.theory.proofs.Places.{Names, alone-below, good-x, good-y}
 use Rattle.theory.proofs.Stability.{stable-moved}
-use Rattle.theory.proofs.Storing.{step-size, step-cases, step-at}
+use Rattle.theory.proofs.Storing.{store-size, store-cases, store-at}
 use Rattle.theory.proofs.Embedding.{states-at, one-carried, one-closure}
 
 -- three states of a sheet
@@ -46,103 +46,103 @@ alone-within kind q m r n l c =
     subst⁻¹ (λ (q′ : Rec). boxAt q′ (l .place) < 3) (List·Memᴰ·eq-of-singleton m) (alone-below kind (l .place))
 
 -- no box past the end is read, so it is no matter that code reads 0 there
-pub fired-read : (n : ℕ) (q : Rec) (s : List ℕ) (x′ y′ z′ : ℕ) → bad n q ≡ false → n ≤ length s →
-    (x′ ∷ y′ ∷ z′ ∷ []) ≡ closed (alone (q .kind) ∷ []) (getD s (q .x) 0 ∷ getD s (q .y) 0 ∷ stateZ q s ∷ []) → Fired q s x′ y′ z′
-fired-read n q s x′ y′ z′ good room e =
+pub new-read : (n : ℕ) (q : Rec) (s : List ℕ) (x′ y′ z′ : ℕ) → bad n q ≡ false → n ≤ length s →
+    (x′ ∷ y′ ∷ z′ ∷ []) ≡ closed (alone (q .kind) ∷ []) (getD s (q .x) 0 ∷ getD s (q .y) 0 ∷ stateZ q s ∷ []) → NewStates q s x′ y′ z′
+new-read n q s x′ y′ z′ good room e =
     rw (
       getD-default s (q .x) 2 0 (omega (arith, good-x n q good)),
       getD-default s (q .y) 2 0 (omega (arith, good-y n q good)),
     ) e
 
 -- a record of qs that is not bad is fired on a sheet; x′ y′ z′ are its new states
-pub record Turn (qs : List Rec) (n : ℕ) (q : Rec) (s : List ℕ) (x′ y′ z′ : ℕ) : Type 0 where
+pub record RecordFires (qs : List Rec) (n : ℕ) (q : Rec) (s : List ℕ) (x′ y′ z′ : ℕ) : Type 0 where
   pub member : List·Memᴰ q qs
   pub good : bad n q ≡ false
   pub room : n ≤ length s
   pub sheet : IsSheet s
-  pub fired : Fired q s x′ y′ z′
+  pub new : NewStates q s x′ y′ z′
 
-module _ {qs : List Rec} {n : ℕ} {q : Rec} {s : List ℕ} {x′ y′ z′ : ℕ} (turn : Turn qs n q s x′ y′ z′) where
+module _ {qs : List Rec} {n : ℕ} {q : Rec} {s : List ℕ} {x′ y′ z′ : ℕ} (firing : RecordFires qs n q s x′ y′ z′) where
   old-codes : Codes (statesAt q s)
-  old-codes = sheet-codes (statesAt q s) (states-sheet q s (turn .sheet))
+  old-codes = sheet-codes (statesAt q s) (states-sheet q s (firing .sheet))
 
   -- no new state is above 3
-  pub turn-codes : Codes (x′ ∷ y′ ∷ z′ ∷ [])
-  turn-codes = subst⁻¹ Codes (turn .fired) (closed-codes (alone (q .kind) ∷ []) (statesAt q s) old-codes)
+  pub new-codes : Codes (x′ ∷ y′ ∷ z′ ∷ [])
+  new-codes = subst⁻¹ Codes (firing .new) (closed-codes (alone (q .kind) ∷ []) (statesAt q s) old-codes)
 
   -- so without a 3 the new states are those of a sheet
-  pub turn-sheet : (x′ ≡ 3 → ⊥) → (y′ ≡ 3 → ⊥) → (z′ ≡ 3 → ⊥) → IsSheet (x′ ∷ y′ ∷ z′ ∷ [])
-  turn-sheet ¬x ¬y ¬z =
+  pub new-sheet : (x′ ≡ 3 → ⊥) → (y′ ≡ 3 → ⊥) → (z′ ≡ 3 → ⊥) → IsSheet (x′ ∷ y′ ∷ z′ ∷ [])
+  new-sheet ¬x ¬y ¬z =
       sheet-three x′ y′ z′
-      (omega (arith, turn-codes 0))
-      (omega (arith, turn-codes 1))
-      (omega (arith, turn-codes 2))
+      (omega (arith, new-codes 0))
+      (omega (arith, new-codes 1))
+      (omega (arith, new-codes 2))
 
   -- no fact is lost, and none is made up
-  pub turn-keeps : Inside (FactsOf (statesAt q s)) (FactsOf (x′ ∷ y′ ∷ z′ ∷ []))
-  turn-keeps =
-      subst⁻¹ (λ (t : List ℕ). Inside (FactsOf (statesAt q s)) (FactsOf t)) (turn .fired)
+  pub new-keeps : Inside (FactsOf (statesAt q s)) (FactsOf (x′ ∷ y′ ∷ z′ ∷ []))
+  new-keeps =
+      subst⁻¹ (λ (t : List ℕ). Inside (FactsOf (statesAt q s)) (FactsOf t)) (firing .new)
       (closed-keeps (alone (q .kind) ∷ []) (statesAt q s))
 
-  pub turn-sound : Inside (FactsOf (x′ ∷ y′ ∷ z′ ∷ [])) (Closure (alone (q .kind) ∷ []) (statesAt q s))
-  turn-sound =
-      subst⁻¹ (λ (t : List ℕ). Inside (FactsOf t) (Closure (alone (q .kind) ∷ []) (statesAt q s))) (turn .fired)
+  pub new-sound : Inside (FactsOf (x′ ∷ y′ ∷ z′ ∷ [])) (Closure (alone (q .kind) ∷ []) (statesAt q s))
+  new-sound =
+      subst⁻¹ (λ (t : List ℕ). Inside (FactsOf t) (Closure (alone (q .kind) ∷ []) (statesAt q s))) (firing .new)
       (closed-sound (alone (q .kind) ∷ []) (statesAt q s))
 
   -- the record alone is stable
-  turn-stable : Stable (alone (q .kind)) (x′ ∷ y′ ∷ z′ ∷ [])
-  turn-stable =
-      subst⁻¹ (λ (t : List ℕ). Stable (alone (q .kind)) t) (turn .fired)
+  new-stable : Stable (alone (q .kind)) (x′ ∷ y′ ∷ z′ ∷ [])
+  new-stable =
+      subst⁻¹ (λ (t : List ℕ). Stable (alone (q .kind)) t) (firing .new)
       (closed-closed (alone (q .kind) ∷ []) (statesAt q s) old-codes (alone-within (q .kind)))
 
   -- a new state that is 3 is a clash
   pub step-clash : (i : ℕ) → getD (x′ ∷ y′ ∷ z′ ∷ []) i 2 ≡ 3 → (b : ℕ) × Clash qs s b
   step-clash i e =
-      let fact : (state : Bool) → _ = λ state. turn-sound i state (both-holds (x′ ∷ y′ ∷ z′ ∷ []) i e state) in
-      let out = one-carried qs s q (turn .member) n (turn .good) i false (fact false) in
-      (boxAt q (out .0), (out .3, one-closure qs s q (turn .member) n (turn .good) (out .0) true (rw (out .1) at (fact true))))
+      let fact : (state : Bool) → _ = λ state. new-sound i state (both-holds (x′ ∷ y′ ∷ z′ ∷ []) i e state) in
+      let out = one-carried qs s q (firing .member) n (firing .good) i false (fact false) in
+      (boxAt q (out .0), (out .3, one-closure qs s q (firing .member) n (firing .good) (out .0) true (rw (out .1) at (fact true))))
 
   -- what is stored at a named box, and what was there
   new-at : (p : Place) → Names q p → (state : Bool) →
-      holds (stepped q x′ y′ z′ s) (boxAt q p) state ≡ holds (x′ ∷ y′ ∷ z′ ∷ []) (boxAt (alone (q .kind)) p) state
-  new-at p m = holds-same (stepped q x′ y′ z′ s) (x′ ∷ y′ ∷ z′ ∷ []) _ _ (step-at q x′ y′ z′ s n (turn .good) (turn .room) p m)
+      holds (withStates q x′ y′ z′ s) (boxAt q p) state ≡ holds (x′ ∷ y′ ∷ z′ ∷ []) (boxAt (alone (q .kind)) p) state
+  new-at p m = holds-same (withStates q x′ y′ z′ s) (x′ ∷ y′ ∷ z′ ∷ []) _ _ (store-at q x′ y′ z′ s n (firing .good) (firing .room) p m)
 
   old-at : (p : Place) → Names q p → (state : Bool) →
       holds (statesAt q s) (boxAt (alone (q .kind)) p) state ≡ holds s (boxAt q p) state
-  old-at p m = holds-same (statesAt q s) s _ _ (states-at q s n (turn .good) p m)
+  old-at p m = holds-same (statesAt q s) s _ _ (states-at q s n (firing .good) p m)
 
-  -- after its turn a record is stable
-  pub step-stable : Stable q (stepped q x′ y′ z′ s)
+  -- once it has fired a record is stable
+  pub step-stable : Stable q (withStates q x′ y′ z′ s)
   step-stable =
-      stable-moved (alone (q .kind)) q (x′ ∷ y′ ∷ z′ ∷ []) (stepped q x′ y′ z′ s) refl
-      (λ p m. sym (step-at q x′ y′ z′ s n (turn .good) (turn .room) p m))
-      turn-stable
+      stable-moved (alone (q .kind)) q (x′ ∷ y′ ∷ z′ ∷ []) (withStates q x′ y′ z′ s) refl
+      (λ p m. sym (store-at q x′ y′ z′ s n (firing .good) (firing .room) p m))
+      new-stable
 
   -- what holds of the new states at every named box, and of the old at every other, holds at every box
   everywhere : (P : ℕ → Type 0) →
       ((p : Place) → Names q p → P (boxAt q p)) →
-      ((b : ℕ) → getD (stepped q x′ y′ z′ s) b 2 ≡ getD s b 2 → P b) →
+      ((b : ℕ) → getD (withStates q x′ y′ z′ s) b 2 ≡ getD s b 2 → P b) →
       (b : ℕ) → P b
   everywhere P here there b =
       ⊎-elim
       (λ found. subst⁻¹ P (found .2) (here (found .0) (found .1)))
       (there b)
-      (step-cases q x′ y′ z′ s n (turn .good) b)
+      (store-cases q x′ y′ z′ s n (firing .good) b)
 
   -- where no new state is 3 the list has grown
-  pub step-grown : IsSheet (x′ ∷ y′ ∷ z′ ∷ []) → Grown qs s (stepped q x′ y′ z′ s)
+  pub step-grown : IsSheet (x′ ∷ y′ ∷ z′ ∷ []) → Grown qs s (withStates q x′ y′ z′ s)
   step-grown new =
       record {
-        size = step-size q x′ y′ z′ s;
-        keeps = λ b state. everywhere (λ c. T (holds s c state) → T (holds (stepped q x′ y′ z′ s) c state))
-            (λ p m t. rw (new-at p m state) (turn-keeps _ state (rw (old-at p m state) t)))
-            (λ c e t. rw (holds-same (stepped q x′ y′ z′ s) s c c e state) t)
+        size = store-size q x′ y′ z′ s;
+        keeps = λ b state. everywhere (λ c. T (holds s c state) → T (holds (withStates q x′ y′ z′ s) c state))
+            (λ p m t. rw (new-at p m state) (new-keeps _ state (rw (old-at p m state) t)))
+            (λ c e t. rw (holds-same (withStates q x′ y′ z′ s) s c c e state) t)
             b;
-        derived = λ b state. everywhere (λ c. T (holds (stepped q x′ y′ z′ s) c state) → Closure qs s c state)
-            (λ p m t. one-closure qs s q (turn .member) n (turn .good) p state (turn-sound _ state (rw (new-at p m state) at t)))
-            (λ c e t. settled (rw (holds-same (stepped q x′ y′ z′ s) s c c e state) at t))
+        derived = λ b state. everywhere (λ c. T (holds (withStates q x′ y′ z′ s) c state) → Closure qs s c state)
+            (λ p m t. one-closure qs s q (firing .member) n (firing .good) p state (new-sound _ state (rw (new-at p m state) at t)))
+            (λ c e t. settled (rw (holds-same (withStates q x′ y′ z′ s) s c c e state) at t))
             b;
-        sheet = everywhere (λ c. getD (stepped q x′ y′ z′ s) c 2 ≤ 2)
-            (λ p m. rw (step-at q x′ y′ z′ s n (turn .good) (turn .room) p m) (new (boxAt (alone (q .kind)) p)))
-            (λ c e. rw e (turn .sheet c));
+        sheet = everywhere (λ c. getD (withStates q x′ y′ z′ s) c 2 ≤ 2)
+            (λ p m. rw (store-at q x′ y′ z′ s n (firing .good) (firing .room) p m) (new (boxAt (alone (q .kind)) p)))
+            (λ c e. rw e (firing .sheet c));
       }

@@ -14,7 +14,7 @@ use Rattle.spec.specs.Kinds.{Place, X, Y, Z, kindOf}
 use Rattle.spec.specs.Records.{Rec, boxAt, bad}
 use Rattle.spec.specs.OneRule.{alone}
 use Rattle.spec.proofs.Named.{good-named}
-use Rattle.theory.specs.Steps.{zMissing, stateZ, stepped}
+use Rattle.theory.specs.Steps.{zMissing, stateZ, withStates}
 use Rattle.theory.proofs.Places.{Names, named, named-names, names-named, good-kind, good-apart}
 
 X≢Y : X ≡ Y → ⊥
@@ -38,18 +38,18 @@ module _ (q : Rec) (x′ y′ z′ : ℕ) (s : List ℕ) where
   pair-size : length pair ≡ length s
   pair-size = simp length-set
 
-  pub step-size : length (stepped q x′ y′ z′ s) ≡ length s
-  unfolding stepped
-  step-size = at (zMissing q)
+  pub store-size : length (withStates q x′ y′ z′ s) ≡ length s
+  unfolding withStates
+  store-size = at (zMissing q)
     where
       at : (missing : Bool) → length (after missing) ≡ length s
       at true = pair-size
       at false = length-set pair (q .z) z′ ∙ pair-size
 
   -- nothing new is stored
-  pub step-still : x′ ≡ getD s (q .x) 2 → y′ ≡ getD s (q .y) 2 → z′ ≡ stateZ q s → stepped q x′ y′ z′ s ≡ s
-  unfolding stepped stateZ
-  step-still ex ey ez = at (zMissing q) ez
+  pub store-still : x′ ≡ getD s (q .x) 2 → y′ ≡ getD s (q .y) 2 → z′ ≡ stateZ q s → withStates q x′ y′ z′ s ≡ s
+  unfolding withStates stateZ
+  store-still ex ey ez = at (zMissing q) ez
     where
       same : pair ≡ s
       same = rw (ex, set-getD s (q .x) 2, ey) (set-getD s (q .y) 2)
@@ -69,9 +69,9 @@ module _ (q : Rec) (x′ y′ z′ : ℕ) (s : List ℕ) where
     apart p p′ m m′ differ e = differ (good-apart n q good p p′ m m′ e)
 
     -- a box is named, or as it was
-    pub step-cases : (b : ℕ) → ((p : Place) × Names q p × (b ≡ boxAt q p)) ⊎ (getD (stepped q x′ y′ z′ s) b 2 ≡ getD s b 2)
-    unfolding stepped boxAt
-    step-cases b = go (ℕ-discrete b (q .x)) (ℕ-discrete b (q .y)) (ℕ-discrete b (q .z)) (zMissing q) refl
+    pub store-cases : (b : ℕ) → ((p : Place) × Names q p × (b ≡ boxAt q p)) ⊎ (getD (withStates q x′ y′ z′ s) b 2 ≡ getD s b 2)
+    unfolding withStates boxAt
+    store-cases b = go (ℕ-discrete b (q .x)) (ℕ-discrete b (q .y)) (ℕ-discrete b (q .z)) (zMissing q) refl
       where
         pair-other : (b ≡ q .x → ⊥) → (b ≡ q .y → ⊥) → getD pair b 2 ≡ getD s b 2
         pair-other ¬x ¬y = getD-set-other (set s (q .x) x′) (q .y) b y′ 2 ¬y ∙ getD-set-other s (q .x) b x′ 2 ¬x
@@ -99,10 +99,10 @@ module _ (q : Rec) (x′ y′ z′ : ℕ) (s : List ℕ) where
       pair-y = getD-set-same (set s (q .x) x′) (q .y) y′ 2 (lt-length-set s (q .x) x′ (below Y (names Y tt)))
 
       -- a named box holds what was stored
-      pub step-at : (p : Place) → Names q p →
-          getD (stepped q x′ y′ z′ s) (boxAt q p) 2 ≡ getD (x′ ∷ y′ ∷ z′ ∷ []) (boxAt (alone (q .kind)) p) 2
-      unfolding stepped boxAt
-      step-at p m = go (zMissing q) refl p m
+      pub store-at : (p : Place) → Names q p →
+          getD (withStates q x′ y′ z′ s) (boxAt q p) 2 ≡ getD (x′ ∷ y′ ∷ z′ ∷ []) (boxAt (alone (q .kind)) p) 2
+      unfolding withStates boxAt
+      store-at p m = go (zMissing q) refl p m
         where
           go : (missing : Bool) → zMissing q ≡ missing → (p : Place) → Names q p →
               getD (after missing) (boxAt q p) 2 ≡ getD (x′ ∷ y′ ∷ z′ ∷ []) (boxAt (alone (q .kind)) p) 2

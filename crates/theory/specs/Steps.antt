@@ -46,12 +46,12 @@ abbrev pub statesAt : Rec → List ℕ → List ℕ
 statesAt q s = getD s (q .x) 2 ∷ getD s (q .y) 2 ∷ stateZ q s ∷ []
 
 -- the new states: the closure of those that are read under this record's rules alone
-abbrev pub Fired : Rec → List ℕ → (x′ y′ z′ : ℕ) → Type 0
-Fired q s x′ y′ z′ = (x′ ∷ y′ ∷ z′ ∷ []) ≡ closed (alone (q .kind) ∷ []) (statesAt q s)
+abbrev pub NewStates : Rec → List ℕ → (x′ y′ z′ : ℕ) → Type 0
+NewStates q s x′ y′ z′ = (x′ ∷ y′ ∷ z′ ∷ []) ≡ closed (alone (q .kind) ∷ []) (statesAt q s)
 
--- the new states stored
-unfoldable pub stepped : Rec → (x′ y′ z′ : ℕ) → List ℕ → List ℕ
-stepped q x′ y′ z′ s =
+-- the list with these states stored at the record's boxes
+unfoldable pub withStates : Rec → (x′ y′ z′ : ℕ) → List ℕ → List ℕ
+withStates q x′ y′ z′ s =
     cond (zMissing q)
     (set (set s (q .x) x′) (q .y) y′)
     (set (set (set s (q .x) x′) (q .y) y′) (q .z) z′)

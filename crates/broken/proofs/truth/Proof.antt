@@ -4,7 +4,7 @@ use mathlib.Core.Path.{_≡_, ap, _∙_}
 use mathlib.Core.Logic.{⊎-elim}
 use mathlib.Core.Bool.{Bool, _&&_, _||_, Bool·beq}
 use Rattle.spec.specs.Kinds.{kindOf, meaning}
-use Rattle.records.proofs.NoKind.{kindOf-other}
+use Rattle.records.proofs.Numbers.{kindOf-other}
 use Rattle.broken.proofs.truth.Statement.{statement}
 use Rattle.broken.proofs.truth.Tie as tie
 

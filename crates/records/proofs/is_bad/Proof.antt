@@ -3,6 +3,7 @@
 use mathlib.Core.Path.{_≡_, sym, _∙_}
 use mathlib.Core.Bool.{Bool, true, false}
 use Prim.Native.Nat.{ℕ}
+use native.Mathlib.Omega.{arith}
 use borrow.Author.Needs.{needs}
 use borrow.Author.Tests.{eq-eqb, ne-eqb, le-leb, lt-leb, not-true, not-false}
 use Rattle.spec.specs.Kinds.{Kind, kindOf}
@@ -87,19 +88,21 @@ returns-5 c = rw (left4 (c .before .before), eq-eqb _ _ (c .if5 .taken))
 returns-6 : tie.Need-returns-6
 returns-6 c =
     let has = c .before .before in
-    rw (left5 (has .before .before), there has, le-leb _ _ (c .if7 .taken))
+    let a = start5 (has .before .before) .args in
+    rw (left5 (has .before .before), there has, le-leb (a .n) (a .q .z) (omega arith))
 
 returns-7 : tie.Need-returns-7
 returns-7 c =
-    let passed = c .before .before in
-    let has = passed .before .before in
-    rw (left5 (has .before .before), there has, lt-leb _ _ (passed .if7 .left), eq-eqb _ _ (c .if8 .taken))
+    let has = c .before .before .before .before in
+    let a = start5 (has .before .before) .args in
+    rw (left5 (has .before .before), there has, lt-leb (a .n) (a .q .z) (omega arith), eq-eqb _ _ (c .if8 .taken))
 
 returns-8 : tie.Need-returns-8
 returns-8 c =
-    let passed = c .before .before .before in
-    let has = passed .before .before in
-    rw (left5 (has .before .before), there has, lt-leb _ _ (passed .if7 .left), ne-eqb _ _ (c .before .if8 .left))
+    let passed = c .before in
+    let has = passed .before .before .before .before in
+    let a = start5 (has .before .before) .args in
+    rw (left5 (has .before .before), there has, lt-leb (a .n) (a .q .z) (omega arith), ne-eqb _ _ (passed .if8 .left))
 
 returns-9 : tie.Need-returns-9
 returns-9 c = rw (left5 (c .before .before .before), missing (c .before))

@@ -16,12 +16,12 @@ returns : tie.Need-returns
 unfolding recordPart
 returns c = rw (lt-ltb (8 * c .before .args .number) (length (c .before .args .maker .now)) (omega arith))
 
-sub-t6 : tie.Need-sub-t6
-sub-t6 c = search needs
+sub-start : tie.Need-sub-start
+sub-start c = search needs
 
 returns-2 : tie.Need-returns-2
 unfolding recordPart
 returns-2 c = rw (le-ltb (8 * c .before .args .number) (length (c .before .args .maker .now)) (omega arith))
 
 pub place-of-spec : {M : Type 1} → statement M
-place-of-spec = tie.close (tie.spec mul-first returns sub-t6 returns-2)
+place-of-spec = tie.close (tie.spec mul-first returns sub-start returns-2)
