@@ -10,7 +10,7 @@ use lib.Dec.{ltb}
 use lib.ListN.{length}
 use Rattle.spec.specs.Records.{recordCount}
 use Rattle.spec.specs.Refusals.{answered}
-use Rattle.spec.specs.Fits.{fits, broken, firstBroken, testChecks, testJudges, testSays, recordPart, partFor, showsPart}
+use Rattle.spec.specs.Fits.{fits, broken, firstBroken, testChecks, testJudges, testSays, Part, recordPart, partFor, showsPart}
 use Rattle.spec.proofs.Judge.{judge-reached}
 use Rattle.spec.proofs.Accepted.{Accepted, test-accepted}
 
@@ -41,6 +41,16 @@ module _ (maker : List ℕ) (number : ℕ) where
   pub part-depot : length maker ≤ 8 * number → recordPart maker number ≡ record { depots = true; start = 8 * number - length maker; size = 8 }
   unfolding recordPart
   part-depot h = rw (le-ltb _ _ h)
+
+  pub part-start : recordPart maker number .start ≤ 8 * number
+  unfolding recordPart
+  part-start = go (ltb (8 * number) (length maker))
+    where
+      go : (t : Bool) →
+          (cond {A = Part} t (record { depots = false; start = 8 * number; size = 8 })
+          (record { depots = true; start = 8 * number - length maker; size = 8 })) .start ≤ 8 * number
+      go true = omega arith
+      go false = omega arith
 
 -- where the first broken record is shown
 module _ (maker depot l : List ℕ) (number : ℕ) (e : answered (broken number) ≡ testSays maker depot l) where
