@@ -1,3 +1,2 @@
-pub mod Turns
+pub mod OneRecord
 pub mod Sweeps
-pub mod Good

@@ -1,18 +1,20 @@
 // The engine: one record's step, a sweep over all records, and sweeps until nothing moves. The states are lent, so that no step
 // copies them. A clash ends the fill, so that no box is ever stored with both facts.
 ghost use mathlib.Core.Path.{_≡_};
-ghost use mathlib.Core.Bool.{false};
-ghost use Prim.Native.Nat.{_≤_, _<_};
-ghost use Rattle.spec.specs.Records.{bad, rulesIn};
+ghost use mathlib.Core.Bool.{true, false};
+ghost use Rattle.spec.specs.Records.{isRule, rulesIn};
+ghost use Rattle.spec.proofs.Accepted.{Accepted};
+ghost use Rattle.theory.specs.Steps.{zMissing};
 ghost use Rattle.records.specs.Record.{asRec};
-ghost use Rattle.engine.specs.Moves.{Cells, GoodTables, Stepped, Swept, Rested};
+ghost use Rattle.engine.specs.Moves.{Cells, StepInput, RulesFired, RecordStepped, Swept, Rested};
 use fire::fire;
 use records::Record;
+use records::count;
+use records::is_rule;
+use records::kinds::has_z;
 use records::record_at;
-
-const OPEN: u8 = 2;
-
-const BOTH: u8 = 3;
+use records::states::BOTH;
+use records::states::OPEN;
 
 pub enum Move {
     Still,
@@ -20,12 +22,11 @@ pub enum Move {
     Clash,
 }
 
-// Kinds 1 and 2 have no z: it is taken as open.
+// A z that is missing is taken as open.
 fn step_pair(q: Record, states: &mut [u8; 256]) -> Move
-    requires { ⌜ q .kind < 3 ⌝ }
-    requires { ⌜ bad 256 (asRec q) ≡ false ⌝ }
-    requires { ⌜ Cells (now states) ⌝ }
-    ensures { λ r. ⌜ Stepped (asRec q) (now (states .entry)) (now (states .exit)) r ⌝ }
+    requires { ⌜ zMissing (asRec q) ≡ true ⌝ }
+    requires { ⌜ StepInput (asRec q) (now states) ⌝ }
+    ensures { λ r. ⌜ RulesFired (asRec q) (now (states .entry)) (now (states .exit)) r ⌝ }
 {
     let x = q.x;
     let y = q.y;
@@ -52,10 +53,9 @@ fn step_pair(q: Record, states: &mut [u8; 256]) -> Move
 }
 
 fn step_triple(q: Record, states: &mut [u8; 256]) -> Move
-    requires { ⌜ 3 ≤ q .kind ⌝ }
-    requires { ⌜ bad 256 (asRec q) ≡ false ⌝ }
-    requires { ⌜ Cells (now states) ⌝ }
-    ensures { λ r. ⌜ Stepped (asRec q) (now (states .entry)) (now (states .exit)) r ⌝ }
+    requires { ⌜ zMissing (asRec q) ≡ false ⌝ }
+    requires { ⌜ StepInput (asRec q) (now states) ⌝ }
+    ensures { λ r. ⌜ RulesFired (asRec q) (now (states .entry)) (now (states .exit)) r ⌝ }
 {
     let x = q.x;
     let y = q.y;
@@ -91,29 +91,30 @@ fn step_triple(q: Record, states: &mut [u8; 256]) -> Move
     Move::Still
 }
 
-// Fires every rule of one record.
+// Fires every rule of one record. A record that is no rule is passed over.
 pub fn step(q: Record, states: &mut [u8; 256]) -> Move
-    requires { ⌜ bad 256 (asRec q) ≡ false ⌝ }
-    requires { ⌜ Cells (now states) ⌝ }
-    ensures { λ r. ⌜ Stepped (asRec q) (now (states .entry)) (now (states .exit)) r ⌝ }
+    requires { ⌜ StepInput (asRec q) (now states) ⌝ }
+    ensures { λ r. ⌜ RecordStepped (isRule (asRec q)) (asRec q) (now (states .entry)) (now (states .exit)) r ⌝ }
 {
-    if q.kind < 3 {
-        step_pair(q, states)
-    } else {
-        step_triple(q, states)
+    if !is_rule(q) {
+        return Move::Still;
     }
+    if has_z(q.kind) {
+        return step_triple(q, states);
+    }
+    step_pair(q, states)
 }
 
 // Steps through every record once.
 pub fn sweep<'a>(maker: &'a [u8], depot: &'a [u8], states: &mut [u8; 256]) -> Move
-    requires { ⌜ GoodTables (now maker) (now depot) ⌝ }
+    requires { ⌜ Accepted 256 (now maker) (now depot) ⌝ }
     requires { ⌜ Cells (now states) ⌝ }
     ensures { λ r. ⌜ Swept (rulesIn (now (maker .entry)) (now (depot .entry))) (now (states .entry)) (now (states .exit)) r ⌝ }
 {
-    let count = maker.len() / 8 + depot.len() / 8;
+    let all = count(maker, depot);
     let mut moved = false;
     let mut i = 0;
-    while i < count {
+    while i < all {
         let answer = step(record_at(maker, depot, i), states);
         match answer {
             Move::Still => {}
@@ -134,7 +135,7 @@ pub fn sweep<'a>(maker: &'a [u8], depot: &'a [u8], states: &mut [u8; 256]) -> Mo
 
 // Sweeps until nothing moves; answers whether there was a clash.
 pub fn run<'a>(maker: &'a [u8], depot: &'a [u8], states: &mut [u8; 256]) -> bool
-    requires { ⌜ GoodTables (now maker) (now depot) ⌝ }
+    requires { ⌜ Accepted 256 (now maker) (now depot) ⌝ }
     requires { ⌜ Cells (now states) ⌝ }
     ensures { λ r. ⌜ Rested (rulesIn (now (maker .entry)) (now (depot .entry))) (now (states .entry)) (now (states .exit)) r ⌝ }
 {

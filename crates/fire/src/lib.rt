@@ -1,23 +1,15 @@
 // Which of the twenty rules fire on a record's three states: a match over kind and states.
-// AND 2 and the like are the rules' names in source document 000, Table 1.
+// AND 2 and the like are the rules' names in source document 000, Table 1. An arm `_` on a state is for open, and for OUT or IN
+// where they have no arm beside it.
 ghost use mathlib.Core.Path.{_≡_};
 ghost use Rattle.fire.specs.States.{three, listOf, OnSheet, closedAlone, Fired};
-
-// The kinds' numbers.
-const EQU: u8 = 1;
-
-const NOT: u8 = 2;
-
-const AND: u8 = 3;
-
-const OR: u8 = 4;
-
-// States; open is 2. An arm `_` is for open, and for OUT or IN where they have no arm beside it.
-const OUT: u8 = 0;
-
-const IN: u8 = 1;
-
-const BOTH: u8 = 3;
+use records::kinds::AND;
+use records::kinds::EQU;
+use records::kinds::NOT;
+use records::kinds::OR;
+use records::states::BOTH;
+use records::states::IN;
+use records::states::OUT;
 
 pub struct States {
     pub x: u8,

@@ -4,8 +4,7 @@ ghost use Prim.Native.Nat.{_≤_, _<_};
 ghost use lib.ListN.{length, set};
 ghost use Rattle.spec.specs.Fill.{boxesFilled, openCount};
 ghost use Rattle.theory.specs.Steps.{Loaded};
-
-const OPEN: u8 = 2;
+use records::states::OPEN;
 
 pub struct Sheet {
     pub states: [u8; 256],

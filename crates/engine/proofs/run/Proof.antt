@@ -5,7 +5,7 @@ use mathlib.Core.Path.{_≡_, sym, subst}
 use mathlib.Core.List.{List}
 use Prim.Native.Nat.{ℕ}
 use borrow.Author.Needs.{needs}
-use Rattle.spec.specs.Records.{rulesIn}
+use Rattle.spec.specs.Records.{Rec, rulesIn}
 use Rattle.spec.specs.Fill.{openCount}
 use Rattle.theory.specs.Steps.{Grown}
 use Rattle.theory.proofs.Growth.{grown-refl, grown-trans, grown-clash}
@@ -22,30 +22,41 @@ Inv-loop maker depot states₀ states = Cells states × Grown (rulesIn maker dep
 abbrev μ-loop : tie.MeasureT-loop
 μ-loop maker depot states₀ states = openCount states
 
+-- where the function began, from where the loop is entered; its rules
+abbrev start : tie.At-loop Inv-loop μ-loop → tie.Start Inv-loop μ-loop
+start c = c .before .before .before
+
+abbrev rules : tie.Start Inv-loop μ-loop → List Rec
+rules c = rulesIn (c .args .maker .now) (c .args .depot .now)
+
 loop-holds : tie.Need-loop-holds Inv-loop μ-loop
 loop-holds c =
-    let start = c .before .before in
-    (start .pre .1, grown-refl (rulesIn (start .args .maker .now) (start .args .depot .now)) (start .args .states .now) (start .pre .1 .sheet))
+    let began = c .before .before in
+    (began .pre .1, grown-refl (rules began) (began .args .states .now) (began .pre .1 .sheet))
 
 sweep-requires : tie.Need-sweep-requires Inv-loop μ-loop
-sweep-requires c κs = (c .before .before .before .before .pre .0, c .before .loop .inv .0)
+sweep-requires c κs = (start (c .before) .pre .0, c .before .loop .inv .0)
 
 enum-told : tie.Need-enum-told Inv-loop μ-loop
 enum-told c = search needs
 
--- the sweep of this turn
+-- the loop's place, from where the sweep has answered
+abbrev loopOf : tie.After-sweep Inv-loop μ-loop → tie.At-loop Inv-loop μ-loop
+loopOf c = c .before .before
+
+-- the sweep that was made
 swept : (c : tie.After-sweep Inv-loop μ-loop) (answer : Move) → c .sweep .result ≡ answer →
-    Swept (rulesIn (c .before .before .before .before .before .args .maker .now) (c .before .before .before .before .before .args .depot .now)) (c .before .before .loop .states) (c .sweep .last .1 .1 .0) answer
+    Swept (rules (start (loopOf c))) (loopOf c .loop .states) (c .sweep .last .1 .1 .0) answer
 swept c answer e =
-    let start = c .before .before .before .before .before in
-    subst (λ (r : Move). Swept (rulesIn (start .args .maker .now) (start .args .depot .now)) (c .before .before .loop .states) (c .sweep .last .1 .1 .0) r) e (c .sweep .ensures)
+    subst (λ (r : Move). Swept (rules (start (loopOf c))) (loopOf c .loop .states) (c .sweep .last .1 .1 .0) r) e (c .sweep .ensures)
 
 returns : tie.Need-returns Inv-loop μ-loop
 returns c =
-    let start = c .before .before .before .before .before .before .before in
-    let at-rest = swept (c .before .before) Still (c .enum-told .given .1) in
-    subst (λ (t : List ℕ). Grown (rulesIn (start .args .maker .now) (start .args .depot .now)) (start .args .states .now) t × AllStable (rulesIn (start .args .maker .now) (start .args .depot .now)) t) (sym (at-rest .0))
-    (c .before .before .before .before .loop .inv .1, at-rest .1)
+    let sweep = c .before .before in
+    let began = start (loopOf sweep) in
+    let at-rest = swept sweep Still (c .enum-told .given .1) in
+    subst (λ (t : List ℕ). Grown (rules began) (began .args .states .now) t × AllStable (rules began) t) (sym (at-rest .0))
+    (loopOf sweep .loop .inv .1, at-rest .1)
 
 enum-told-2 : tie.Need-enum-told-2 Inv-loop μ-loop
 enum-told-2 c = search needs
@@ -55,16 +66,19 @@ loop-less c = swept (c .before .before) Moved (c .enum-told2 .given .1) .falls
 
 loop-again : tie.Need-loop-again Inv-loop μ-loop
 loop-again c =
-    let larger = swept (c .before .before) Moved (c .enum-told2 .given .1) in
-    (larger-cells (c .before .before .before .before .loop .inv .0) larger, grown-trans (c .before .before .before .before .loop .inv .1) (larger .grown))
+    let sweep = c .before .before in
+    let so-far = loopOf sweep .loop .inv in
+    let larger = swept sweep Moved (c .enum-told2 .given .1) in
+    (larger-cells (so-far .0) larger, grown-trans (so-far .1) (larger .grown))
 
 enum-told-3 : tie.Need-enum-told-3 Inv-loop μ-loop
 enum-told-3 c = search needs
 
 returns-2 : tie.Need-returns-2 Inv-loop μ-loop
 returns-2 c =
-    let clash = swept (c .before .before) Clash (c .enum-told3 .given .1) in
-    (clash .0, grown-clash (c .before .before .before .before .loop .inv .1) (clash .1))
+    let sweep = c .before .before in
+    let clash = swept sweep Clash (c .enum-told3 .given .1) in
+    (clash .0, grown-clash (loopOf sweep .loop .inv .1) (clash .1))
 
 pub run-spec : {M : Type 1} → statement M
 run-spec =
