@@ -1,4 +1,5 @@
--- `fill::fill_carried` meets its contract: its MIR hands its parameters on to `fill_accepted`, by way of the struct.
+-- `fill::fill_carried` meets its contract: its code hands its own parameters on to `fill_accepted`, by way of the struct, so that function's
+-- contract, which is the same, passes through.
 -- Assumes nothing.
 use mathlib.Core.Path.{refl}
 use mathlib.Core.List.{[], _∷_}
@@ -8,7 +9,7 @@ use sound.WpLaws.{fmOf}
 use denote.Enum.Laws as EL
 use denote.Triple.Spec.{tripleOf}
 use denote.Triple.Table.{entered, cited}
-use Rattle.tables.proofs.Through.{through, slice, buffer, number}
+use Rattle.tables.proofs.Through.{through, with-tables, slice, buffer}
 use Rattle.fill.proofs.Filled as S
 use Rattle.fill.proofs.Filled.Laws as S′
 use Rattle.fill.proofs.fill_accepted.Symbol as callee-def
@@ -28,7 +29,7 @@ fill-carried-spec 𝓤 H 𝓜 𝓖 𝓡 =
     let Con = tripleOf 𝓤 H (𝓖 .A) this.signature spec in
     entered 𝓤 H Con (𝓣 .C) (𝓣 .Λ) #this code.function (code.unfolded 𝓤 H 𝓜 𝓡)
     (through 𝓤 H (𝓖 .A) W this.signature spec code.function #callee
-    (λ κs. let table = slice 𝓤 H (𝓖 .A) W (named 0) (κs .0) in
-    (table, (table, (number 𝓤 H (𝓖 .A) W, (slice 𝓤 H (𝓖 .A) W (named 1) (κs .1 .0), (buffer 𝓤 H (𝓖 .A) W (named 2) (κs .1 .1 .0), tt))))))
-    (λ κs r u is. EL.lawful S.the-type S′.the-laws 𝓤 H (𝓖 .A) W tt .typed r (u ∷ []) is .0) (λ κs a. (tt, (refl, refl))) (𝓣 .C) (𝓣 .Λ) (fmOf 𝓤 H (W .laws) 𝓣)
+    (λ κs. with-tables 𝓤 H (𝓖 .A) W (κs .0) (slice 𝓤 H (𝓖 .A) W (named 1) (κs .1 .0), (buffer 𝓤 H (𝓖 .A) W (named 2) (κs .1 .1 .0), tt)))
+    (λ κs r u is. EL.lawful S.the-type S′.the-laws 𝓤 H (𝓖 .A) W tt .typed r (u ∷ []) is .0) (λ κs a. (tt, (refl, refl)))
+    (𝓣 .C) (𝓣 .Λ) (fmOf 𝓤 H (W .laws) 𝓣)
     (cited 𝓤 H Con 𝓜 𝓡 code.env #callee callee-def.routine code.calls-fill·fill-accepted (callee-thm.met 𝓤 H 𝓜 𝓖 𝓡)))

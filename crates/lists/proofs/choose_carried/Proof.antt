@@ -1,4 +1,5 @@
--- `lists::choose_carried` meets its contract: its MIR hands its parameters on to `choose_accepted`, by way of the struct.
+-- `lists::choose_carried` meets its contract: its code hands its own parameters on to `choose_accepted`, by way of the struct, so that function's
+-- contract, which is the same, passes through.
 -- Assumes nothing.
 use mathlib.Core.Path.{refl}
 use mathlib.Core.List.{[], _∷_}
@@ -7,7 +8,7 @@ use contract.Running.{givenOf, tables, tablesOf}
 use sound.WpLaws.{fmOf}
 use denote.Triple.Spec.{tripleOf}
 use denote.Triple.Table.{entered, cited}
-use Rattle.tables.proofs.Through.{through, slice, buffer, number, truth}
+use Rattle.tables.proofs.Through.{through, with-tables, slice, buffer, truth}
 use Rattle.lists.proofs.choose_accepted.Symbol as callee-def
 use Rattle.lists.proofs.choose_accepted.Symbol.{name as #callee}
 use Rattle.lists.proofs.choose_accepted.Met as callee-thm
@@ -23,10 +24,11 @@ choose-carried-spec 𝓤 H 𝓜 𝓖 𝓡 =
     let 𝓣 = tablesOf 𝓤 H 𝓜 (tables 𝓤 H 𝓜 𝓡 code.env) in
     let spec = this.spec 𝓤 H (𝓖 .A) (𝓜 .mem) (𝓡 .run) in
     let Con = tripleOf 𝓤 H (𝓖 .A) this.signature spec in
+    let lent = slice 𝓤 H (𝓖 .A) W in
     entered 𝓤 H Con (𝓣 .C) (𝓣 .Λ) #this code.function (code.unfolded 𝓤 H 𝓜 𝓡)
     (through 𝓤 H (𝓖 .A) W this.signature spec code.function #callee
-    (λ κs. let table = slice 𝓤 H (𝓖 .A) W (named 0) (κs .0) in
-    (table, (table, (number 𝓤 H (𝓖 .A) W, (slice 𝓤 H (𝓖 .A) W (named 1) (κs .1 .0), (slice 𝓤 H (𝓖 .A) W (named 2) (κs .1 .1 .0),
-    (truth 𝓤 H (𝓖 .A) W, (buffer 𝓤 H (𝓖 .A) W (named 3) (κs .1 .1 .1 .0), tt))))))))
-    (λ κs r u is. truth 𝓤 H (𝓖 .A) W .lawful .typed r (u ∷ []) is .0) (λ κs a. (tt, (refl, refl))) (𝓣 .C) (𝓣 .Λ) (fmOf 𝓤 H (W .laws) 𝓣)
+    (λ κs. with-tables 𝓤 H (𝓖 .A) W (κs .0)
+    (lent (named 1) (κs .1 .0), (lent (named 2) (κs .1 .1 .0), (truth 𝓤 H (𝓖 .A) W, (buffer 𝓤 H (𝓖 .A) W (named 3) (κs .1 .1 .1 .0), tt)))))
+    (λ κs r u is. truth 𝓤 H (𝓖 .A) W .lawful .typed r (u ∷ []) is .0) (λ κs a. (tt, (refl, refl)))
+    (𝓣 .C) (𝓣 .Λ) (fmOf 𝓤 H (W .laws) 𝓣)
     (cited 𝓤 H Con 𝓜 𝓡 code.env #callee callee-def.routine code.calls-lists·choose-accepted (callee-thm.met 𝓤 H 𝓜 𝓖 𝓡)))
