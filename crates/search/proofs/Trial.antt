@@ -1,4 +1,4 @@
--- One turn of the search: from a filled sheet, its lowest open box and how it stands to the given list, to the answer.
+-- One trial of the search: from a filled sheet, its lowest open box and how it stands to the given list, to the answer.
 -- Assumes nothing.
 use mathlib.Core.Path.{_≡_, refl, sym, subst, _∙_}
 use mathlib.Core.Logic.{inl, inr, ⊎-elim}
@@ -33,7 +33,7 @@ ahead-of Before k e = ⊎-elim (λ z. omega arith) (λ z. omega arith) k
 ahead-of Same k e = let z : _≡_ {A = ℕ} 0 1 = cc in omega arith
 ahead-of Past k e = let z : _≡_ {A = ℕ} 0 1 = cc in omega arith
 
--- what a turn knows: the sheet filled to rest, its lowest open box, and how the boxes before that stand to the given list
+-- what a trial knows: the sheet filled to rest, its lowest open box, and how the boxes before that stand to the given list
 pub record Looked (maker depot : List ℕ) (n : ℕ) (s given : List ℕ) (after : Bool) (t : List ℕ) (b : ℕ) (w : Standing) : Type 0 where
   pub rest : Rested (rulesIn maker depot) s t false
   pub low : LowestOpen t n b
