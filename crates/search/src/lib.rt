@@ -1,20 +1,20 @@
 // The search: it branches at the lowest position still open, out before in, with a fill after each choice. Each trial has a sheet
 // of its own.
+mod look;
+
 ghost use lib.ListN.{take};
 ghost use Rattle.spec.specs.Records.{rulesIn};
 ghost use Rattle.kits.specs.Order.{AnswerTo};
 ghost use Rattle.kits.specs.Kit.{Wanted};
 ghost use Rattle.search.specs.Ready.{Ready};
 use engine::run;
-use look::Way;
-use look::is_level;
+use look::Standing;
+use look::is_bound;
 use look::lowest_open;
-use look::stand_to;
+use look::standing_to;
+use records::states::IN;
+use records::states::OUT;
 use sheet::Sheet;
-
-const OUT: u8 = 0;
-
-const IN: u8 = 1;
 
 pub struct Found {
     pub found: bool,
@@ -31,24 +31,23 @@ pub fn search<'a>(
     after: bool,
 ) -> Found
     requires { ⌜ Ready (now maker) (now depot) n (sheet .states) (now given) after ⌝ }
-    ensures { λ r. ⌜ AnswerTo (Wanted (rulesIn (now (maker .entry)) (now (depot .entry))) n (sheet .states) after (now (given .entry))) (r .found) (take n (r .sheet .states)) ⌝ }
+    ensures { λ r. ⌜ AnswerTo (Wanted (rulesIn (now (maker .entry)) (now (depot .entry))) n (sheet .states) after (now (given .entry)))
+        (r .found) (take n (r .sheet .states)) ⌝ }
 {
+    let none = Found {
+        found: false,
+        sheet,
+    };
     let mut states = sheet.states;
     if run(maker, depot, &mut states) {
-        return Found {
-            found: false,
-            sheet,
-        };
+        return none;
     }
     let b = lowest_open(&states[..], n);
-    let stand = stand_to(&states[..], given, b, after);
-    if let Way::Before = stand {
-        return Found {
-            found: false,
-            sheet,
-        };
+    let standing = standing_to(&states[..], given, b, after);
+    if let Standing::Before = standing {
+        return none;
     }
-    let bound = is_level(stand);
+    let bound = is_bound(standing);
     let here = Sheet { states };
     if b == n {
         return Found {

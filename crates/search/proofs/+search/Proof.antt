@@ -1,7 +1,7 @@
--- `search::search` meets its contract: a turn's answer comes from its branches', and each has fewer open boxes.
+-- `search::search` meets its contract: a trial's answer comes from its branches', and each has fewer open boxes.
 -- Assumes nothing.
 use borrow.Author.Needs.{needs}
-use mathlib.Core.Path.{_≡_, sym, subst, _∙_}
+use mathlib.Core.Path.{_≡_, sym, subst, subst⁻¹, _∙_}
 use mathlib.Core.Bool.{Bool, true, false}
 use mathlib.Core.List.{List, []}
 use Prim.Native.Nat.{ℕ, _≤_, _<_}
@@ -10,20 +10,21 @@ use lib.ListN.{length, take, set}
 use Rattle.spec.specs.Records.{rulesIn}
 use Rattle.spec.specs.Fill.{openCount}
 use Rattle.engine.specs.Moves.{Rested}
-use Rattle.engine.proofs.Good.{good-accepted}
+use Rattle.spec.proofs.Accepted.{accepted-all}
 use Rattle.kits.specs.Order.{Question, AnswerTo}
 use Rattle.kits.specs.Kit.{Wanted}
 use Rattle.search.specs.Ready.{Ready}
-use Rattle.search.proofs.Turn.{Looked, ahead-of, turn-clash, turn-before, turn-full, branch-ready, branch-falls, turn-out, turn-in}
+use Rattle.search.specs.declared.look.Standing.the-variants.{Before}
+use Rattle.search.proofs.Trial.{Looked, ahead-of, trial-clash, trial-before, trial-full, branch-ready, branch-falls, trial-out, trial-in}
 use borrow.Fn.Kinds.{In}
 use borrow.Fn.PlainCycle.{Measures, is, falls, and}
 use Rattle.search.proofs.search.Reads as search′
 use Rattle.search.proofs.search.Kinds as search-kinds
 use Rattle.search.proofs.+search.Lts-search as search-lts
 use Rattle.engine.proofs.run.Reads as run-reads
-use Rattle.look.proofs.is_level.Reads as is-level-reads
-use Rattle.look.proofs.lowest_open.Reads as lowest-open-reads
-use Rattle.look.proofs.stand_to.Reads as stand-to-reads
+use Rattle.search.proofs.look.is_bound.Reads as is-bound-reads
+use Rattle.search.proofs.look.lowest_open.Reads as lowest-open-reads
+use Rattle.search.proofs.look.standing_to.Reads as standing-to-reads
 use Rattle.sheet.proofs.Sheet.settled.Reads as settled-reads
 use Rattle.search.proofs.+search.{statement}
 use Rattle.search.proofs.+search.Tie.{close}
@@ -43,140 +44,189 @@ claims t = (
   run-reads.Learnt,
   lowest-open-reads.Asked,
   lowest-open-reads.Learnt,
-  stand-to-reads.Asked,
-  stand-to-reads.Learnt,
-  is-level-reads.Asked,
-  is-level-reads.Learnt,
+  standing-to-reads.Asked,
+  standing-to-reads.Learnt,
+  is-bound-reads.Asked,
+  is-bound-reads.Learnt,
   settled-reads.Asked,
   settled-reads.Learnt,
   search-below t,
   search′.Post,
 )
 
--- the engine has come to rest
-rested : (t : ℕ) (c : search-lts.Else1 (claims t) (search-at t) search′.Post) →
-    Rested (rulesIn (c .before .before .before .before .before .before .before .args .maker .now) (c .before .before .before .before .before .before .before .args .depot .now)) (c .before .before .before .before .before .before .before .args .sheet .states) (c .before .run .last .1 .1 .0) false
-rested t c =
-    let start = c .before .before .before .before .before .before .before in
-    subst
-    (λ (r : Bool). Rested (rulesIn (start .args .maker .now) (start .args .depot .now)) (start .args .sheet .states) (c .before .run .last .1 .1 .0) r)
-    (c .if1 .left) (c .before .run .ensures)
-
-rest-room : (t : ℕ) (c : search-lts.Else1 (claims t) (search-at t) search′.Post) → length (c .before .run .last .1 .1 .0) ≡ 256
-rest-room t c = rested t c .0 .size ∙ c .before .before .before .before .before .before .before .pre .1 .cells .size
-
--- what the turn looked at
-looked : (t : ℕ) (c : search-lts.After-stand-to (claims t) (search-at t) search′.Post) →
-    Looked (c .before .before .before .before .before .before .before .before .before .before .before .args .maker .now) (c .before .before .before .before .before .before .before .before .before .before .before .args .depot .now) (c .before .before .before .before .before .before .before .before .before .before .before .args .n) (c .before .before .before .before .before .before .before .before .before .before .before .args .sheet .states) (c .before .before .before .before .before .before .before .before .before .before .before .args .given .now) (c .before .before .before .before .before .before .before .before .before .before .before .args .after)
-    (c .before .before .before .before .before .run .last .1 .1 .0) (c .before .before .lowest-open .result) (c .stand-to .result)
-looked t c = record { rest = rested t (c .before .before .before .before); low = c .before .before .lowest-open .ensures; stands = c .stand-to .ensures }
-
--- an answer that is found, and one that is not
+-- an answer, with what is known of whether it is found
 with-found : (P : Question) (found found′ : Bool) (l : List ℕ) → found ≡ found′ → AnswerTo P found l → AnswerTo P found′ l
 with-found P found found′ l e a = subst (λ (f : Bool). AnswerTo P f l) e a
 
-search-run-requires : (t : ℕ) → search-lts.Need-run-requires (claims t) (search-at t) search′.Post
-search-run-requires t c κs =
-    let start = c .before .before .before .before .before in
-    (good-accepted (start .pre .1 .tables), start .pre .1 .cells)
+-- the search at measure t
+module _ (t : ℕ) where
+  -- the places of the code that are spoken of, each after the one before it
+  abbrev Start : Type 0
+  Start = search-lts.Start (claims t) (search-at t) search′.Post
 
-search-returns : (t : ℕ) → search-lts.Need-returns (claims t) (search-at t) search′.Post
-search-returns t c =
-    let start = c .before .before .before .before .before .before .before in
-    turn-clash (start .pre .1)
-    (subst (λ (r : Bool). Rested (rulesIn (start .args .maker .now) (start .args .depot .now)) (start .args .sheet .states) (c .before .run .last .1 .1 .0) r) (c .if1 .taken) (c .before .run .ensures))
-    []
+  abbrev Ran : Type 0
+  Ran = search-lts.After-run (claims t) (search-at t) search′.Post
 
-search-slice-aggregate-lowest-open : (t : ℕ) → search-lts.Need-slice-aggregate-lowest-open (claims t) (search-at t) search′.Post
-search-slice-aggregate-lowest-open t c =
-    sym (rest-room t (c .before))
+  abbrev AtRest : Type 0
+  AtRest = search-lts.Else1 (claims t) (search-at t) search′.Post
 
-search-lowest-open-requires : (t : ℕ) → search-lts.Need-lowest-open-requires (claims t) (search-at t) search′.Post
-search-lowest-open-requires t c κs =
-    let start = c .before .before .before .before .before .before .before .before in
-    omega (arith, rest-room t (c .before), start .pre .1 .tables .boxes)
+  abbrev Found : Type 0
+  Found = search-lts.After-lowest-open (claims t) (search-at t) search′.Post
 
-search-slice-aggregate-stand-to : (t : ℕ) → search-lts.Need-slice-aggregate-stand-to (claims t) (search-at t) search′.Post
-search-slice-aggregate-stand-to t c =
-    sym (rest-room t (c .before .before .before))
+  abbrev Stood : Type 0
+  Stood = search-lts.After-standing-to (claims t) (search-at t) search′.Post
 
-search-stand-to-requires : (t : ℕ) → search-lts.Need-stand-to-requires (claims t) (search-at t) search′.Post
-search-stand-to-requires t c κs =
-    let start = c .before .before .before .before .before .before .before .before .before .before in (
-      omega (arith, rest-room t (c .before .before .before), start .pre .1 .tables .boxes, c .before .lowest-open .ensures .within),
-      λ e. omega (arith, start .pre .1 .size e, c .before .lowest-open .ensures .within),
-    )
+  abbrev Branching : Type 0
+  Branching = search-lts.Else2 (claims t) (search-at t) search′.Post
 
-search-enum-told : (t : ℕ) → search-lts.Need-enum-told (claims t) (search-at t) search′.Post
-search-enum-told t c = search needs
+  -- from a place back to an earlier one
+  abbrev start : Ran → Start
+  start c = c .before .before .before .before .before .before
 
-search-returns-2 : (t : ℕ) → search-lts.Need-returns-2 (claims t) (search-at t) search′.Post
-search-returns-2 t c =
-    let start = c .before .before .before .before .before .before .before .before .before .before .before .before .before in
-    turn-before (start .pre .1)
-    (looked t (c .before .before))
-    (c .enum-told .given .1) []
+  abbrev resting : Found → AtRest
+  resting c = c .before .before
 
-search-is-level-requires : (t : ℕ) → search-lts.Need-is-level-requires (claims t) (search-at t) search′.Post
-search-is-level-requires t c κs = search needs
+  abbrev found : Stood → Found
+  found c = c .before .before
 
-search-returns-3 : (t : ℕ) → search-lts.Need-returns-3 (claims t) (search-at t) search′.Post
-search-returns-3 t c =
-    let start = c .before .before .before .before .before .before .before .before .before .before .before .before .before .before in
-    rw (c .before .is-level .ensures)
-    (turn-full (start .pre .1)
-    (looked t (c .before .before .before))
-    (ahead-of _ (c .before .before .match .keys2)) (c .if2 .taken))
+  abbrev ran : Stood → Ran
+  ran c = resting (found c) .before
 
--- box b is one of the n, and open
-box-open : (t : ℕ) (c : search-lts.Else2 (claims t) (search-at t) search′.Post) → c .before .before .before .before .before .lowest-open .result < c .before .before .before .before .before .before .before .before .before .before .before .before .before .before .args .n
-box-open t c = omega (arith, c .before .before .before .before .before .lowest-open .ensures .within, c .if2 .left)
+  abbrev stood : Branching → Stood
+  stood c = c .before .before .before
 
-search-settled-requires : (t : ℕ) → search-lts.Need-settled-requires (claims t) (search-at t) search′.Post
-search-settled-requires t c κs =
-    let start = c .before .before .before .before .before .before .before .before .before .before .before .before .before .before in
-    omega (arith, c .before .before .before .before .before .lowest-open .ensures .within, c .if2 .left, start .pre .1 .tables .boxes)
+  -- what is asked, of the tables, the boxes and the given list that the function began with
+  abbrev sought : Start → Question
+  sought s = Wanted (rulesIn (s .args .maker .now) (s .args .depot .now)) (s .args .n) (s .args .sheet .states) (s .args .after) (s .args .given .now)
 
--- either branch: fewer boxes are open, and it is ready for a search
-branches : (t : ℕ) (c : search-lts.Else2 (claims t) (search-at t) search′.Post) (v : ℕ) → v ≤ 1 →
-    (openCount (set (c .before .before .before .before .before .before .before .before .run .last .1 .1 .0) (c .before .before .before .before .before .lowest-open .result) v) < t)
-    × Ready (c .before .before .before .before .before .before .before .before .before .before .before .before .before .before .args .maker .now) (c .before .before .before .before .before .before .before .before .before .before .before .before .before .before .args .depot .now) (c .before .before .before .before .before .before .before .before .before .before .before .before .before .before .args .n) (set (c .before .before .before .before .before .before .before .before .run .last .1 .1 .0) (c .before .before .before .before .before .lowest-open .result) v) (c .before .before .before .before .before .before .before .before .before .before .before .before .before .before .args .given .now) (c .before .is-level .result)
-branches t c v small =
-    let start = c .before .before .before .before .before .before .before .before .before .before .before .before .before .before in
-    let ahead = ahead-of _ (c .before .before .match .keys2) in (
-      omega (arith, start .pre .0, branch-falls (start .pre .1) (looked t (c .before .before .before)) ahead (box-open t c) v small),
-      rw (c .before .is-level .ensures) (branch-ready (start .pre .1) (looked t (c .before .before .before)) ahead (box-open t c) v small),
-    )
+  -- the states that the engine leaves
+  abbrev filled : Ran → List ℕ
+  filled c = c .run .last .1 .1 .0
 
-search-search-requires : (t : ℕ) → search-lts.Need-search-requires (claims t) (search-at t) search′.Post
-search-search-requires t c κs = rw (c .settled .ensures) (branches t (c .before) _ (omega arith))
+  abbrev RestedAs : Ran → Bool → Type 0
+  RestedAs c = Rested (rulesIn (start c .args .maker .now) (start c .args .depot .now)) (start c .args .sheet .states) (filled c)
 
-search-returns-4 : (t : ℕ) → search-lts.Need-returns-4 (claims t) (search-at t) search′.Post
-search-returns-4 t c =
-    let start = c .before .before .before .before .before .before .before .before .before .before .before .before .before .before .before .before .before in
-    with-found (Wanted (rulesIn (start .args .maker .now) (start .args .depot .now)) (start .args .n) (start .args .sheet .states) (start .args .after) (start .args .given .now)) true (c .before .search .result .found) _ (sym (c .if3 .taken))
-    (turn-out (start .pre .1)
-    (looked t (c .before .before .before .before .before .before))
-    (ahead-of _ (c .before .before .before .before .before .match .keys2)) (box-open t (c .before .before .before)) (take (start .args .n) (c .before .search .result .sheet .states))
-    (rw (c .before .before .settled .ensures, c .before .before .before .before .is-level .ensures, c .if3 .taken) at (c .before .search .ensures)))
+  rested : (c : AtRest) → RestedAs (c .before) false
+  rested c = subst (RestedAs (c .before)) (c .if1 .left) (c .before .run .ensures)
 
-search-settled-requires-2 : (t : ℕ) → search-lts.Need-settled-requires-2 (claims t) (search-at t) search′.Post
-search-settled-requires-2 t c κs =
-    let start = c .before .before .before .before .before .before .before .before .before .before .before .before .before .before .before .before .before in
-    omega (arith, c .before .before .before .before .before .before .before .before .lowest-open .ensures .within, c .before .before .before .if2 .left, start .pre .1 .tables .boxes)
+  rest-room : (c : AtRest) → length (filled (c .before)) ≡ 256
+  rest-room c = rested c .0 .size ∙ start (c .before) .pre .1 .cells .size
 
-search-search-requires-2 : (t : ℕ) → search-lts.Need-search-requires-2 (claims t) (search-at t) search′.Post
-search-search-requires-2 t c κs = rw (c .settled2 .ensures) (branches t (c .before .before .before .before) _ (omega arith))
+  looked : (c : Stood) → let s = start (ran c) in
+      Looked (s .args .maker .now) (s .args .depot .now) (s .args .n) (s .args .sheet .states) (s .args .given .now) (s .args .after)
+      (filled (ran c)) (found c .lowest-open .result) (c .standing-to .result)
+  looked c =
+      record { rest = rested (resting (found c)); low = found c .lowest-open .ensures; stands = c .standing-to .ensures }
 
-search-returns-5 : (t : ℕ) → search-lts.Need-returns-5 (claims t) (search-at t) search′.Post
-search-returns-5 t c =
-    let start = c .before .before .before .before .before .before .before .before .before .before .before .before .before .before .before .before .before .before .before in
-    turn-in (start .pre .1)
-    (looked t (c .before .before .before .before .before .before .before .before))
-    (ahead-of _ (c .before .before .before .before .before .before .before .match .keys2)) (box-open t (c .before .before .before .before .before)) (take (start .args .n) (c .before .before .before .search .result .sheet .states))
-    (rw (c .before .before .before .before .settled .ensures, c .before .before .before .before .before .before .is-level .ensures, c .before .before .if3 .left) at (c .before .before .before .search .ensures))
-    (c .search2 .result .found) (take (start .args .n) (c .search2 .result .sheet .states))
-    (rw (c .before .settled2 .ensures, c .before .before .before .before .before .before .is-level .ensures) at (c .search2 .ensures))
+  search-run-requires : search-lts.Need-run-requires (claims t) (search-at t) search′.Post
+  search-run-requires c κs =
+      let began = c .before .before .before .before .before in
+      (accepted-all (began .pre .1 .tables), began .pre .1 .cells)
+
+  search-returns : search-lts.Need-returns (claims t) (search-at t) search′.Post
+  search-returns c =
+      trial-clash (start (c .before) .pre .1) (subst (RestedAs (c .before)) (c .if1 .taken) (c .before .run .ensures)) []
+
+  search-slice-aggregate-lowest-open : search-lts.Need-slice-aggregate-lowest-open (claims t) (search-at t) search′.Post
+  search-slice-aggregate-lowest-open c = sym (rest-room (c .before))
+
+  search-lowest-open-requires : search-lts.Need-lowest-open-requires (claims t) (search-at t) search′.Post
+  search-lowest-open-requires c κs =
+      let began = start (c .before .before) in
+      omega (arith, rest-room (c .before), began .pre .1 .tables .boxes)
+
+  search-slice-aggregate-standing-to : search-lts.Need-slice-aggregate-standing-to (claims t) (search-at t) search′.Post
+  search-slice-aggregate-standing-to c = sym (rest-room (resting (c .before)))
+
+  search-standing-to-requires : search-lts.Need-standing-to-requires (claims t) (search-at t) search′.Post
+  search-standing-to-requires c κs =
+      let low = c .before .lowest-open .ensures in
+      let ready = start (resting (c .before) .before) .pre .1 in (
+        omega (arith, rest-room (resting (c .before)), ready .tables .boxes, low .within),
+        λ e. omega (arith, ready .size e, low .within),
+      )
+
+  search-enum-told : search-lts.Need-enum-told (claims t) (search-at t) search′.Post
+  search-enum-told c = search needs
+
+  search-returns-2 : search-lts.Need-returns-2 (claims t) (search-at t) search′.Post
+  search-returns-2 c =
+      let here = c .before .before in
+      trial-before (start (ran here) .pre .1) (looked here) (c .enum-told .given .1) []
+
+  search-is-bound-requires : search-lts.Need-is-bound-requires (claims t) (search-at t) search′.Post
+  search-is-bound-requires c κs = search needs
+
+  search-returns-3 : search-lts.Need-returns-3 (claims t) (search-at t) search′.Post
+  search-returns-3 c =
+      let here = c .before .before .before in
+      rw (c .before .is-bound .ensures)
+      (trial-full (start (ran here) .pre .1) (looked here) (ahead-of _ (c .before .before .match .keys2)) (c .if2 .taken))
+
+  -- the given list is not before what stands
+  ahead : (c : Branching) → stood c .standing-to .result ≡ Before → ⊥
+  ahead c = ahead-of _ (c .before .before .match .keys2)
+
+  -- box b is one of the n, and open
+  box-open : (c : Branching) → found (stood c) .lowest-open .result < start (ran (stood c)) .args .n
+  box-open c = omega (arith, found (stood c) .lowest-open .ensures .within, c .if2 .left)
+
+  -- and so one of the 256
+  box-below : (c : Branching) → found (stood c) .lowest-open .result < 256
+  box-below c = omega (arith, box-open c, start (ran (stood c)) .pre .1 .tables .boxes)
+
+  search-settled-requires : search-lts.Need-settled-requires (claims t) (search-at t) search′.Post
+  search-settled-requires c κs = box-below c
+
+  -- the sheet of a branch
+  abbrev branch : Branching → ℕ → List ℕ
+  branch c v = set (filled (ran (stood c))) (found (stood c) .lowest-open .result) v
+
+  -- it is ready for a search, whether or not it has to pass the given list
+  abbrev ReadyFor : Branching → ℕ → Bool → Type 0
+  ReadyFor c v =
+      let s = start (ran (stood c)) in
+      Ready (s .args .maker .now) (s .args .depot .now) (s .args .n) (branch c v) (s .args .given .now)
+
+  -- either branch: fewer boxes are open, and it is ready
+  branches : (c : Branching) (v : ℕ) → v ≤ 1 → (openCount (branch c v) < t) × ReadyFor c v (c .before .is-bound .result)
+  branches c v small =
+      let began = start (ran (stood c)) in (
+        omega (arith, began .pre .0, branch-falls (began .pre .1) (looked (stood c)) (ahead c) (box-open c) v small),
+        subst⁻¹ (ReadyFor c v) (c .before .is-bound .ensures)
+            (branch-ready (began .pre .1) (looked (stood c)) (ahead c) (box-open c) v small),
+      )
+
+  search-search-requires : search-lts.Need-search-requires (claims t) (search-at t) search′.Post
+  search-search-requires c κs = rw (c .settled .ensures) (branches (c .before) _ (omega arith))
+
+  search-returns-4 : search-lts.Need-returns-4 (claims t) (search-at t) search′.Post
+  search-returns-4 c =
+      let call = c .before in
+      let here = call .before .before in
+      let began = start (ran (stood here)) in
+      let l = take (began .args .n) (call .search .result .sheet .states) in
+      with-found (sought began) true (call .search .result .found) l (sym (c .if3 .taken))
+      (trial-out (began .pre .1) (looked (stood here)) (ahead here) (box-open here) l
+      (rw (call .before .settled .ensures, here .before .is-bound .ensures, c .if3 .taken) at (call .search .ensures)))
+
+  search-settled-requires-2 : search-lts.Need-settled-requires-2 (claims t) (search-at t) search′.Post
+  search-settled-requires-2 c κs = box-below (c .before .before .before)
+
+  search-search-requires-2 : search-lts.Need-search-requires-2 (claims t) (search-at t) search′.Post
+  search-search-requires-2 c κs =
+      let here = c .before .before .before .before in
+      rw (c .settled2 .ensures) (branches here _ (omega arith))
+
+  search-returns-5 : search-lts.Need-returns-5 (claims t) (search-at t) search′.Post
+  search-returns-5 c =
+      let call = c .before .before .before in
+      let here = call .before .before in
+      let began = start (ran (stood here)) in
+      trial-in (began .pre .1) (looked (stood here)) (ahead here) (box-open here) (take (began .args .n) (call .search .result .sheet .states))
+      (rw (call .before .settled .ensures, here .before .is-bound .ensures, c .before .before .if3 .left) at (call .search .ensures))
+      (c .search2 .result .found) (take (began .args .n) (c .search2 .result .sheet .states))
+      (rw (c .before .settled2 .ensures, here .before .is-bound .ensures) at (c .search2 .ensures))
 
 pub +search-spec : {M : Type 1} → statement M
 +search-spec = close μ-search λ t. search-lts.spec (claims t)
@@ -186,11 +236,11 @@ pub +search-spec : {M : Type 1} → statement M
     (search-returns t)
     (search-slice-aggregate-lowest-open t)
     (search-lowest-open-requires t)
-    (search-slice-aggregate-stand-to t)
-    (search-stand-to-requires t)
+    (search-slice-aggregate-standing-to t)
+    (search-standing-to-requires t)
     (search-enum-told t)
     (search-returns-2 t)
-    (search-is-level-requires t)
+    (search-is-bound-requires t)
     (search-returns-3 t)
     (search-settled-requires t)
     (search-search-requires t)

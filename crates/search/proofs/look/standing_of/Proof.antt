@@ -1,4 +1,4 @@
--- `look::compare` meets its contract: at every box passed the two are the same.
+-- `search::look::standing_of` meets its contract: at every box passed the two are the same.
 -- Assumes nothing.
 use mathlib.Core.Path.{_≡_, refl, sym}
 use mathlib.Core.Logic.{inr}
@@ -8,8 +8,8 @@ use borrow.Author.Needs.{needs}
 use borrow.Author.Count.{below-none, below-more}
 use lib.ListN.{getD}
 use Rattle.lemmas.proofs.Reading.{getD-default}
-use Rattle.look.proofs.compare.Statement.{statement}
-use Rattle.look.proofs.compare.Tie as tie
+use Rattle.search.proofs.look.standing_of.Statement.{statement}
+use Rattle.search.proofs.look.standing_of.Tie as tie
 
 abbrev Inv-loop : tie.InvT-loop
 Inv-loop states given b c₀ c = (c ≤ b) × ((i : ℕ) → i < c → getD states i 2 ≡ getD given i 2)
@@ -61,8 +61,8 @@ loop-again c =
 returns-3 : tie.Need-returns-3 Inv-loop μ-loop
 returns-3 c = (refl, λ i h. c .before .loop .inv .1 i (omega arith))
 
-pub compare-spec : {M : Type 1} → statement M
-compare-spec =
+pub standing-of-spec : {M : Type 1} → statement M
+standing-of-spec =
     tie.close
     (tie.spec
     Inv-loop

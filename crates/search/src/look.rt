@@ -3,14 +3,13 @@ ghost use mathlib.Core.Path.{_≡_};
 ghost use mathlib.Core.Bool.{true};
 ghost use Prim.Native.Nat.{_≤_};
 ghost use lib.ListN.{length};
-ghost use Rattle.look.specs.Look.{LowestOpen, Stands, levelOf};
-
-const OPEN: u8 = 2;
+ghost use Rattle.search.specs.Look.{LowestOpen, Stands, boundOf};
+use records::states::OPEN;
 
 // How the first boxes of a sheet stand to the given list. Where no list is to be passed they are past it from the start.
-pub enum Way {
+pub enum Standing {
     Before,
-    Level,
+    Same,
     Past,
 }
 
@@ -29,8 +28,8 @@ pub fn lowest_open(states: &[u8], n: usize) -> usize
     b
 }
 
-// At the lowest box where the two differ, if that is one of the first b.
-fn compare(states: &[u8], given: &[u8], b: usize) -> Way
+// The lowest box where the two differ decides, if that is one of the first b.
+fn standing_of(states: &[u8], given: &[u8], b: usize) -> Standing
     requires { ⌜ b ≤ length (now states) ⌝ }
     requires { ⌜ b ≤ length (now given) ⌝ }
     ensures { λ r. ⌜ Stands (now (states .entry)) (now (given .entry)) b true r ⌝ }
@@ -38,34 +37,36 @@ fn compare(states: &[u8], given: &[u8], b: usize) -> Way
     let mut c = 0;
     while c < b {
         if states[c] < given[c] {
-            return Way::Before;
+            return Standing::Before;
         }
         if given[c] < states[c] {
-            return Way::Past;
+            return Standing::Past;
         }
         c += 1;
     }
-    Way::Level
+    Standing::Same
 }
 
-pub fn stand_to(states: &[u8], given: &[u8], b: usize, after: bool) -> Way
+// The same, where the given list is to be passed only if `after`.
+pub fn standing_to(states: &[u8], given: &[u8], b: usize, after: bool) -> Standing
     requires { ⌜ b ≤ length (now states) ⌝ }
     requires { ⌜ (after ≡ true → b ≤ length (now given)) ⌝ }
     ensures { λ r. ⌜ Stands (now (states .entry)) (now (given .entry)) b after r ⌝ }
 {
     if after {
-        compare(states, given, b)
+        standing_of(states, given, b)
     } else {
-        Way::Past
+        Standing::Past
     }
 }
 
-pub fn is_level(w: Way) -> bool
-    ensures { λ r. ⌜ r ≡ levelOf w ⌝ }
+// Whether the boxes that follow have still to pass the given list.
+pub fn is_bound(standing: Standing) -> bool
+    ensures { λ r. ⌜ r ≡ boundOf standing ⌝ }
 {
-    match w {
-        Way::Before => false,
-        Way::Level => true,
-        Way::Past => false,
+    match standing {
+        Standing::Before => false,
+        Standing::Same => true,
+        Standing::Past => false,
     }
 }

@@ -1,4 +1,4 @@
--- One turn of the search: from a filled sheet, its lowest open box and how it stands to the given list, to the answer.
+-- One trial of the search: from a filled sheet, its lowest open box and how it stands to the given list, to the answer.
 -- Assumes nothing.
 use mathlib.Core.Path.{_≡_, refl, sym, subst, _∙_}
 use mathlib.Core.Logic.{inl, inr, ⊎-elim}
@@ -20,31 +20,31 @@ use Rattle.kits.proofs.Forced.{clash-answer, filled-answer, filled-past}
 use Rattle.kits.proofs.AtRest.{rest-answer}
 use Rattle.kits.proofs.Branch.{set-sheet, set-past, branch-out, branch-in}
 use Rattle.kits.proofs.Bound.{bound-less, bound-more, bound-same}
-use Rattle.engine.specs.Moves.{Clashes, Rested}
-use Rattle.look.proofs.Way.{the-type}
-use Rattle.look.specs.Look.{LowestOpen, Stands, levelOf}
+use Rattle.engine.specs.Moves.{SomeClash, Rested}
+use Rattle.search.proofs.look.Standing.{the-type}
+use Rattle.search.specs.Look.{LowestOpen, Stands, boundOf}
 use Rattle.search.specs.Ready.{Ready}
-use Rattle.look.specs.declared.Way.{Way}
-use Rattle.look.specs.declared.Way.the-variants.{Before, Level, Past}
+use Rattle.search.specs.declared.look.Standing.{Standing}
+use Rattle.search.specs.declared.look.Standing.the-variants.{Before, Same, Past}
 
 -- a match that passed over `Before` shows that it is not
-pub ahead-of : (w : Way) → OneOf (1 ∷ 2 ∷ []) (tagOf the-type w) → w ≡ Before → ⊥
+pub ahead-of : (w : Standing) → OneOf (1 ∷ 2 ∷ []) (tagOf the-type w) → w ≡ Before → ⊥
 ahead-of Before k e = ⊎-elim (λ z. omega arith) (λ z. omega arith) k
-ahead-of Level k e = let z : _≡_ {A = ℕ} 0 1 = cc in omega arith
+ahead-of Same k e = let z : _≡_ {A = ℕ} 0 1 = cc in omega arith
 ahead-of Past k e = let z : _≡_ {A = ℕ} 0 1 = cc in omega arith
 
--- what a turn knows: the sheet filled to rest, its lowest open box, and how the boxes before that stand to the given list
-pub record Looked (maker depot : List ℕ) (n : ℕ) (s given : List ℕ) (after : Bool) (t : List ℕ) (b : ℕ) (w : Way) : Type 0 where
+-- what a trial knows: the sheet filled to rest, its lowest open box, and how the boxes before that stand to the given list
+pub record Looked (maker depot : List ℕ) (n : ℕ) (s given : List ℕ) (after : Bool) (t : List ℕ) (b : ℕ) (w : Standing) : Type 0 where
   pub rest : Rested (rulesIn maker depot) s t false
   pub low : LowestOpen t n b
   pub stands : Stands t given b after w
 
 module _ {maker depot : List ℕ} {n : ℕ} {s given : List ℕ} {after : Bool} (ready : Ready maker depot n s given after) where
   -- a clash: no kit
-  pub turn-clash : Clashes (rulesIn maker depot) s → (x : List ℕ) → AnswerTo (Wanted (rulesIn maker depot) n s after given) false x
-  turn-clash c x = clash-answer (rulesIn maker depot) n s (ready .past) (c .0) (c .1) after given x
+  pub trial-clash : SomeClash (rulesIn maker depot) s → (x : List ℕ) → AnswerTo (Wanted (rulesIn maker depot) n s after given) false x
+  trial-clash c x = clash-answer (rulesIn maker depot) n s (ready .past) (c .0) (c .1) after given x
 
-  module _ {t : List ℕ} {b : ℕ} {w : Way} (looked : Looked maker depot n s given after t b w) where
+  module _ {t : List ℕ} {b : ℕ} {w : Standing} (looked : Looked maker depot n s given after t b w) where
     good : Good n (rulesIn maker depot)
     good = rules-good maker depot (ready .tables)
 
@@ -61,21 +61,21 @@ module _ {maker depot : List ℕ} {n : ℕ} {s given : List ℕ} {after : Bool} 
         (within-good n (rulesIn maker depot) good)
 
     -- an answer for the filled sheet is one for the sheet
-    filled-turn : (found : Bool) (l : List ℕ) → AnswerTo (Wanted (rulesIn maker depot) n t after given) found l →
+    filled-trial : (found : Bool) (l : List ℕ) → AnswerTo (Wanted (rulesIn maker depot) n t after given) found l →
         AnswerTo (Wanted (rulesIn maker depot) n s after given) found l
-    filled-turn found l a =
+    filled-trial found l a =
         filled-answer (rulesIn maker depot) n s t (ready .past) (ready .cells .sheet) (looked .rest .0 .sheet) (looked .rest .0 .keeps) (looked .rest .0 .derived)
         after given found l a
 
     -- an answer with the bound that is left is one with the bound that was asked
-    bound-turn : (v : Way) → Stands t given b after v → (v ≡ Before → ⊥) → (found : Bool) (l : List ℕ) →
-        AnswerTo (Wanted (rulesIn maker depot) n t (levelOf v) given) found l → AnswerTo (Wanted (rulesIn maker depot) n t after given) found l
-    bound-turn Before st no-before found l a = absurd (no-before refl)
-    bound-turn Level st no-before found l a =
+    bound-trial : (v : Standing) → Stands t given b after v → (v ≡ Before → ⊥) → (found : Bool) (l : List ℕ) →
+        AnswerTo (Wanted (rulesIn maker depot) n t (boundOf v) given) found l → AnswerTo (Wanted (rulesIn maker depot) n t after given) found l
+    bound-trial Before st no-before found l a = absurd (no-before refl)
+    bound-trial Same st no-before found l a =
         subst (λ (x : Bool). AnswerTo (Wanted (rulesIn maker depot) n t x given) found l) (sym (st .0)) a
-    bound-turn Past (inl e) no-before found l a =
+    bound-trial Past (inl e) no-before found l a =
         subst (λ (x : Bool). AnswerTo (Wanted (rulesIn maker depot) n t x given) found l) (sym e) a
-    bound-turn Past (inr (c, h, more)) no-before found l a = dropped after refl
+    bound-trial Past (inr (c, h, more)) no-before found l a = dropped after refl
       where
         dropped : (x : Bool) → after ≡ x → AnswerTo (Wanted (rulesIn maker depot) n t after given) found l
         dropped true e =
@@ -84,30 +84,30 @@ module _ {maker depot : List ℕ} {n : ℕ} {s given : List ℕ} {after : Bool} 
         dropped false e = subst (λ (x : Bool). AnswerTo (Wanted (rulesIn maker depot) n t x given) found l) (sym e) a
 
     -- every kit stands before the given list
-    pub turn-before : w ≡ Before → (x : List ℕ) → AnswerTo (Wanted (rulesIn maker depot) n s after given) false x
-    turn-before e x = filled-turn false x (none w (looked .stands) e)
+    pub trial-before : w ≡ Before → (x : List ℕ) → AnswerTo (Wanted (rulesIn maker depot) n s after given) false x
+    trial-before e x = filled-trial false x (none w (looked .stands) e)
       where
-        none : (v : Way) → Stands t given b after v → v ≡ Before → AnswerTo (Wanted (rulesIn maker depot) n t after given) false x
+        none : (v : Standing) → Stands t given b after v → v ≡ Before → AnswerTo (Wanted (rulesIn maker depot) n t after given) false x
         none Before (is, (c, h, less)) e =
             subst (λ (y : Bool). AnswerTo (Wanted (rulesIn maker depot) n t y given) false x) (sym is)
             (bound-less (rulesIn maker depot) n t given b (looked .low .within) front (ready .size is) c h less x)
-        none Level st e = let z : _≡_ {A = ℕ} 0 1 = cc in absurd (omega arith)
+        none Same st e = let z : _≡_ {A = ℕ} 0 1 = cc in absurd (omega arith)
         none Past st e = let z : _≡_ {A = ℕ} 0 1 = cc in absurd (omega arith)
 
     module _ (ahead : w ≡ Before → ⊥) where
-      pub turn-answer : (found : Bool) (l : List ℕ) → AnswerTo (Wanted (rulesIn maker depot) n t (levelOf w) given) found l →
+      pub trial-answer : (found : Bool) (l : List ℕ) → AnswerTo (Wanted (rulesIn maker depot) n t (boundOf w) given) found l →
           AnswerTo (Wanted (rulesIn maker depot) n s after given) found l
-      turn-answer found l a = filled-turn found l (bound-turn w (looked .stands) ahead found l a)
+      trial-answer found l a = filled-trial found l (bound-trial w (looked .stands) ahead found l a)
 
       -- no box is open: the sheet is the only kit, unless it is the given list
-      pub turn-full : b ≡ n → AnswerTo (Wanted (rulesIn maker depot) n s after given) (not (levelOf w)) (take n t)
-      turn-full e = turn-answer (not (levelOf w)) (take n t) (whole w (looked .stands))
+      pub trial-full : b ≡ n → AnswerTo (Wanted (rulesIn maker depot) n s after given) (not (boundOf w)) (take n t)
+      trial-full e = trial-answer (not (boundOf w)) (take n t) (whole w (looked .stands))
         where
           only : AnswerTo (Wanted (rulesIn maker depot) n t false given) true (take n t)
           only = rest-answer (rulesIn maker depot) n t (λ c h. front c (omega arith)) (looked .rest .0 .sheet) good (looked .rest .1) false given tt
 
-          whole : (v : Way) → Stands t given b after v → AnswerTo (Wanted (rulesIn maker depot) n t (levelOf v) given) (not (levelOf v)) (take n t)
-          whole Level st = bound-same (rulesIn maker depot) n t given b (looked .low .within) front (ready .size (st .0)) e (st .1) (take n t)
+          whole : (v : Standing) → Stands t given b after v → AnswerTo (Wanted (rulesIn maker depot) n t (boundOf v) given) (not (boundOf v)) (take n t)
+          whole Same st = bound-same (rulesIn maker depot) n t given b (looked .low .within) front (ready .size (st .0)) e (st .1) (take n t)
           whole Before st = only
           whole Past st = only
 
@@ -116,7 +116,7 @@ module _ {maker depot : List ℕ} {n : ℕ} {s given : List ℕ} {after : Bool} 
         opened = looked .low .opened below
 
         -- what a branch is handed
-        pub branch-ready : (v : ℕ) → v ≤ 1 → Ready maker depot n (set t b v) given (levelOf w)
+        pub branch-ready : (v : ℕ) → v ≤ 1 → Ready maker depot n (set t b v) given (boundOf w)
         branch-ready v small =
             record {
               tables = ready .tables;
@@ -129,9 +129,9 @@ module _ {maker depot : List ℕ} {n : ℕ} {s given : List ℕ} {after : Bool} 
               size = λ e. given-size w (looked .stands) e;
             }
           where
-            given-size : (v : Way) → Stands t given b after v → levelOf v ≡ true → length given ≡ n
+            given-size : (v : Standing) → Stands t given b after v → boundOf v ≡ true → length given ≡ n
             given-size Before st e = absurd (true≢false (sym e))
-            given-size Level st e = ready .size (st .0)
+            given-size Same st e = ready .size (st .0)
             given-size Past st e = absurd (true≢false (sym e))
 
         -- fewer boxes are open
@@ -140,12 +140,12 @@ module _ {maker depot : List ℕ} {n : ℕ} {s given : List ℕ} {after : Bool} 
             omega (arith, open-set t b v (omega (arith, room)) opened small, open-mono (looked .rest .0) (ready .cells .sheet))
 
         -- a kit found with the box out is the answer; else the answer with the box in is
-        pub turn-out : (l : List ℕ) → AnswerTo (Wanted (rulesIn maker depot) n (set t b 0) (levelOf w) given) true l →
+        pub trial-out : (l : List ℕ) → AnswerTo (Wanted (rulesIn maker depot) n (set t b 0) (boundOf w) given) true l →
             AnswerTo (Wanted (rulesIn maker depot) n s after given) true l
-        turn-out l a = turn-answer true l (branch-out (rulesIn maker depot) n t b below room opened front (levelOf w) given l a)
+        trial-out l a = trial-answer true l (branch-out (rulesIn maker depot) n t b below room opened front (boundOf w) given l a)
 
-        pub turn-in : (x : List ℕ) → AnswerTo (Wanted (rulesIn maker depot) n (set t b 0) (levelOf w) given) false x →
-            (found : Bool) (l : List ℕ) → AnswerTo (Wanted (rulesIn maker depot) n (set t b 1) (levelOf w) given) found l →
+        pub trial-in : (x : List ℕ) → AnswerTo (Wanted (rulesIn maker depot) n (set t b 0) (boundOf w) given) false x →
+            (found : Bool) (l : List ℕ) → AnswerTo (Wanted (rulesIn maker depot) n (set t b 1) (boundOf w) given) found l →
             AnswerTo (Wanted (rulesIn maker depot) n s after given) found l
-        turn-in x none found l a =
-            turn-answer found l (branch-in (rulesIn maker depot) n t b below room opened front (levelOf w) given x none found l a)
+        trial-in x none found l a =
+            trial-answer found l (branch-in (rulesIn maker depot) n t b below room opened front (boundOf w) given x none found l a)

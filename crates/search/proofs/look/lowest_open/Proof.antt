@@ -1,4 +1,4 @@
--- `look::lowest_open` meets its contract: no box passed is open.
+-- `search::look::lowest_open` meets its contract: no box passed is open.
 -- Assumes nothing.
 use mathlib.Core.Path.{_≡_, _∙_}
 use Prim.Native.Nat.{ℕ, _-_, _≤_, _<_}
@@ -7,8 +7,8 @@ use borrow.Author.Needs.{needs}
 use borrow.Author.Count.{below-none, below-more}
 use lib.ListN.{getD}
 use Rattle.lemmas.proofs.Reading.{getD-default}
-use Rattle.look.proofs.lowest_open.Statement.{statement}
-use Rattle.look.proofs.lowest_open.Tie as tie
+use Rattle.search.proofs.look.lowest_open.Statement.{statement}
+use Rattle.search.proofs.look.lowest_open.Tie as tie
 
 abbrev Inv-loop : tie.InvT-loop
 Inv-loop states n b₀ b = (b ≤ n) × ((i : ℕ) → i < b → getD states i 2 ≡ 2 → ⊥)

@@ -7,8 +7,8 @@ use mathlib.Core.List.{List}
 use Prim.Native.Nat.{ℕ, _≤_, _<_}
 use lib.ListN.{getD}
 use Rattle.kits.specs.Order.{LessAt}
-use Rattle.look.specs.declared.Way.{Way}
-use Rattle.look.specs.declared.Way.the-variants.{Before, Level, Past}
+use Rattle.search.specs.declared.look.Standing.{Standing}
+use Rattle.search.specs.declared.look.Standing.the-variants.{Before, Same, Past}
 
 -- no box below b is open, and box b is, unless it is n
 pub record LowestOpen (t : List ℕ) (n b : ℕ) : Type 0 where
@@ -21,12 +21,13 @@ abbrev pub LessBelow : List ℕ → List ℕ → ℕ → Type 0
 LessBelow l k b = (c : ℕ) × (c < b) × LessAt l k c
 
 -- the first b boxes of t stand before the given list, are the same, or stand past it; where none is to be passed, they are past
-abbrev pub Stands : List ℕ → List ℕ → ℕ → Bool → Way → Type 0
+abbrev pub Stands : List ℕ → List ℕ → ℕ → Bool → Standing → Type 0
 Stands t given b after Before = (after ≡ true) × LessBelow t given b
-Stands t given b after Level = (after ≡ true) × ((c : ℕ) → c < b → getD t c 2 ≡ getD given c 2)
+Stands t given b after Same = (after ≡ true) × ((c : ℕ) → c < b → getD t c 2 ≡ getD given c 2)
 Stands t given b after Past = (after ≡ false) ⊎ LessBelow given t b
 
-abbrev pub levelOf : Way → Bool
-levelOf Before = false
-levelOf Level = true
-levelOf Past = false
+-- what follows has still to pass the given list
+abbrev pub boundOf : Standing → Bool
+boundOf Before = false
+boundOf Same = true
+boundOf Past = false
