@@ -1,7 +1,7 @@
 -- `lists::choose_accepted` meets its contract: the search is asked of the loaded sheet, and what it finds is stored whole.
 -- Assumes nothing.
 use mathlib.Core.Path.{_≡_, refl, sym, subst, _∙_}
-use mathlib.Core.Bool.{true, true≢false}
+use mathlib.Core.Bool.{Bool, true, true≢false}
 use mathlib.Core.List.{List}
 use Prim.Native.Nat.{ℕ}
 use native.Mathlib.Omega.{arith}
@@ -14,54 +14,79 @@ use borrow.Author.Needs.{needs}
 use Rattle.lists.proofs.choose_accepted.Statement.{statement}
 use Rattle.lists.proofs.choose_accepted.Tie as tie
 
-load-requires : tie.Need-load-requires
-load-requires c κs =
-    let start = c .before .before .before .before .before in
-    call-fits (start .args .n) (start .args .maker .now) (start .args .depot .now) (start .args .sheet .now) (start .args .given .now) (start .args .after) (start .args .out .now) (start .pre)
+-- what the function was called with
+abbrev called : tie.After-load → tie.Start
+called c = c .before .before .before .before .before .before
 
-search-requires : tie.Need-search-requires
-search-requires c κs =
-    let start = c .before .before .before .before .before .before in
-    call-ready (start .args .n) (start .args .maker .now) (start .args .depot .now) (start .args .sheet .now) (start .args .given .now) (start .args .after) (start .args .out .now) (start .pre) (c .load .result .states) (c .load .ensures)
+-- the answer to what was asked
+abbrev Answers : tie.Start → Bool → List ℕ → Type 0
+Answers start found l =
+    let a = start .args in
+    AnswerTo (Wanted (rulesIn (a .maker .now) (a .depot .now)) (a .n) (a .sheet .now) (a .after) (a .given .now)) found l
+
+-- what the search found is the answer for the sheet
+answer-found : (c : tie.After-search) →
+    let start = called (c .before) in
+    Answers start (c .search .result .found) (take (start .args .n) (c .search .result .sheet .states))
+answer-found c =
+    let loaded = c .before .load in
+    let start = called (c .before) in
+    let a = start .args in
+    call-answer (a .n) (a .maker .now) (a .depot .now) (a .sheet .now) (a .given .now) (a .after) (start .pre .0)
+    (loaded .result .states) (loaded .ensures) (c .search .result .found) (take (a .n) (c .search .result .sheet .states)) (c .search .ensures)
 
 -- a kit that is found is of the sheet's length
-kit-size : (c : tie.Then1) → length (take (c .before .before .before .before .before .before .before .before .args .n) (c .before .search .result .sheet .states)) ≡ c .before .before .before .before .before .before .before .before .args .n
+kit-size : (c : tie.Then1) →
+    let n = called (c .before .before) .args .n in
+    length (take n (c .before .search .result .sheet .states)) ≡ n
 kit-size c =
-    let start = c .before .before .before .before .before .before .before .before in
-    found-size (start .args .maker .now) (start .args .depot .now) (c .before .before .load .result .states) (start .args .given .now) (start .args .after)
-    (start .args .n) (c .before .search .result .found) (take (start .args .n) (c .before .search .result .sheet .states))
+    let a = called (c .before .before) .args in
+    found-size (a .maker .now) (a .depot .now) (c .before .before .load .result .states) (a .given .now) (a .after)
+    (a .n) (c .before .search .result .found) (take (a .n) (c .before .search .result .sheet .states))
     (c .if1 .taken) (c .before .search .ensures)
 
+load-requires : tie.Need-load-requires
+load-requires c κs = 
+    let start = c .before .before .before .before .before in
+    let a = start .args in
+    call-fits (a .n) (a .maker .now) (a .depot .now) (a .sheet .now) (a .given .now) (a .after) (start .pre .0)
+
+search-requires : tie.Need-search-requires
+search-requires c κs = 
+    let start = called c in
+    let a = start .args in
+    call-ready (a .n) (a .maker .now) (a .depot .now) (a .sheet .now) (a .given .now) (a .after) (start .pre .0) (start .pre .1 .1)
+    (c .load .result .states) (c .load .ensures)
+
 array-share-prefix-states : tie.Need-array-share-prefix-states
-array-share-prefix-states c =
-    let start = c .before .before .before .before .before .before .before .before .before .before in
-    omega (arith, kit-size (c .before .before), length-take (start .args .n) (c .before .before .before .search .result .sheet .states))
+array-share-prefix-states c = 
+    let found = c .before .before in
+    let n = called (found .before .before) .args .n in
+    omega (arith, kit-size found, length-take n (found .before .search .result .sheet .states))
 
 slice-aggregate-store : tie.Need-slice-aggregate-store
 slice-aggregate-store c = sym (kit-size (c .before .before .before))
 
 store-requires : tie.Need-store-requires
-store-requires c κs =
-    let start = c .before .before .before .before .before .before .before .before .before .before .before .before in
-    start .pre .room ∙ sym (kit-size (c .before .before .before .before))
+store-requires c κs = 
+    let found = c .before .before .before .before in
+    called (found .before .before) .pre .1 .0 ∙ sym (kit-size found)
 
 same-length : tie.Need-same-length
 same-length c = search needs
 
 returns : tie.Need-returns
-returns c =
-    let start = c .before .before .before .before .before .before .before .before .before .before .before .before .before .before .before in
+returns c = 
+    let stored = c .before .before in
+    let found = stored .before .before .before .before .before in
     record {
       answer =
-          subst (λ (l : List ℕ). AnswerTo (Wanted (rulesIn (start .args .maker .now) (start .args .depot .now)) (start .args .n) (start .args .sheet .now) (start .args .after) (start .args .given .now)) true l)
-          (sym (c .before .before .store .ensures)) (rw (c .before .before .before .before .before .before .before .if1 .taken) at (call-answer (start .args .n) (start .args .maker .now) (start .args .depot .now) (start .args .sheet .now) (start .args .given .now) (start .args .after) (start .args .out .now) (start .pre) (c .before .before .before .before .before .before .before .before .before .load .result .states) (c .before .before .before .before .before .before .before .before .before .load .ensures) (c .before .before .before .before .before .before .before .before .search .result .found) (take (start .args .n) (c .before .before .before .before .before .before .before .before .search .result .sheet .states)) (c .before .before .before .before .before .before .before .before .search .ensures)));
+          subst (Answers (called (found .before .before)) true) (sym (stored .store .ensures)) (rw (found .if1 .taken) at (answer-found (found .before)));
       kept = λ e. absurd (true≢false e);
     }
 
 returns-2 : tie.Need-returns-2
-returns-2 c =
-    let start = c .before .before .before .before .before .before .before .before in
-    record { answer = rw (c .if1 .left) at (call-answer (start .args .n) (start .args .maker .now) (start .args .depot .now) (start .args .sheet .now) (start .args .given .now) (start .args .after) (start .args .out .now) (start .pre) (c .before .before .load .result .states) (c .before .before .load .ensures) (c .before .search .result .found) (take (start .args .n) (c .before .search .result .sheet .states)) (c .before .search .ensures)); kept = λ e. refl }
+returns-2 c = record { answer = rw (c .if1 .left) at (answer-found (c .before)); kept = λ e. refl }
 
 pub choose-accepted-spec : {M : Type 1} → statement M
 choose-accepted-spec =

@@ -1,14 +1,28 @@
 -- `lists::first` meets its contract: the checks come first, and what comes after them is First's.
 -- Assumes nothing.
 use mathlib.Core.Path.{_≡_, sym, ap, subst, _∙_}
+use mathlib.Core.Bool.{true≢false}
 use Rattle.spec.specs.Refusals.{passed, judge, orderChecks}
+use Rattle.spec.specs.Kits.{headOf, handsOut, kits, firstSays, firstWrites}
+use Rattle.spec.proofs.Judge.{does-refused}
+use Rattle.spec.proofs.Accepted.{order-accepted}
 use Rattle.accept.specs.Form.{formSays}
-use Rattle.answers.specs.declared.Listed.{Listed}
+use Rattle.lists.specs.declared.Listed.{Listed}
 use Rattle.lists.specs.Answer.{FirstDoes}
-use Rattle.lists.proofs.Calls.{listedFor, first-refuses, first-call, first-does}
+use Rattle.lists.proofs.Calls.{listedAs, first-does}
 use borrow.Author.Needs.{needs}
 use Rattle.lists.proofs.first.Statement.{statement}
 use Rattle.lists.proofs.first.Tie as tie
+
+-- what the function was called with
+abbrev called : tie.After-check-order → tie.Start
+called c = c .before .before .before .before .before .before
+
+-- the checks have passed
+passes : (c : tie.After-enum-told) →
+    let a = called (c .before .before) .args in
+    judge (orderChecks (a .maker .now) (a .depot .now) (a .sheet .now) (a .out .now)) passed ≡ passed
+passes c = sym (ap formSays (sym (c .enum-told .given .1)) ∙ c .before .before .check-order .ensures)
 
 check-order-requires : tie.Need-check-order-requires
 check-order-requires c κs = search needs
@@ -20,39 +34,46 @@ same-length : tie.Need-same-length
 same-length c = search needs
 
 returns : tie.Need-returns
-returns c =
-    let start = c .before .before .before .before .before .before .before .before .before in
-    first-refuses (start .args .maker .now) (start .args .depot .now) (start .args .sheet .now) (start .args .out .now) (c .before .form .given .0 .0)
-    (ap formSays (sym (c .before .form .given .1)) ∙ c .before .before .before .check-order .ensures)
+unfolding firstSays firstWrites
+returns c = 
+    let checked = c .before .before .before in
+    let a = called checked .args in
+    let all = kits (a .maker .now) (a .depot .now) (a .sheet .now) in
+    does-refused (orderChecks (a .maker .now) (a .depot .now) (a .sheet .now) (a .out .now)) (handsOut all) (headOf all) (a .out .now)
+    (sym (ap formSays (sym (c .before .form .given .1)) ∙ checked .check-order .ensures))
 
 enum-told : tie.Need-enum-told
 enum-told c = search needs
 
-passes : (c : tie.After-enum-told) → judge (orderChecks (c .before .before .before .before .before .before .before .before .args .maker .now) (c .before .before .before .before .before .before .before .before .args .depot .now) (c .before .before .before .before .before .before .before .before .args .sheet .now) (c .before .before .before .before .before .before .before .before .args .out .now)) passed ≡ passed
-passes c = sym (ap formSays (sym (c .enum-told .given .1)) ∙ c .before .before .check-order .ensures)
-
 choose-carried-requires : tie.Need-choose-carried-requires
-choose-carried-requires c κs =
-    let start = c .before .before .before .before .before .before .before .before .before in
-    first-call (start .args .maker .now) (start .args .depot .now) (start .args .sheet .now) (start .args .out .now) (passes (c .before))
+choose-carried-requires c κs = 
+    let a = called (c .before .before .before) .args in
+    let known = order-accepted (a .maker .now) (a .depot .now) (a .sheet .now) (a .out .now) (passes (c .before)) in
+    (known .order, (known .out-length, λ e. absurd (true≢false (sym e))))
 
 same-length-2 : tie.Need-same-length-2
 same-length-2 c = search needs
 
 returns-2 : tie.Need-returns-2
-returns-2 c =
-    let start = c .before .before .before .before .before .before .before .before .before .before .before .before .before in
-    subst (λ (r : Listed). FirstDoes (start .args .maker .now) (start .args .depot .now) (start .args .sheet .now) (start .args .out .now) r (c .before .before .before .choose-carried .last .1 .1 .1 .1 .1 .1 .0)) (ap listedFor (c .if1 .taken))
-    (first-does (start .args .maker .now) (start .args .depot .now) (start .args .sheet .now) (start .args .out .now) (passes (c .before .before .before .before .before)) (c .before .before .before .choose-carried .result) (c .before .before .before .choose-carried .last .1 .1 .1 .1 .1 .1 .0) (c .before .before .before .choose-carried .ensures))
+returns-2 c = 
+    let chosen = c .before .before .before in
+    let told = chosen .before .before in
+    let a = called (told .before .before) .args in
+    let left = chosen .choose-carried .last .1 .1 .1 .1 .1 .1 .0 in
+    subst (λ (r : Listed). FirstDoes (a .maker .now) (a .depot .now) (a .sheet .now) (a .out .now) r left) (ap listedAs (c .if1 .taken))
+    (first-does (a .maker .now) (a .depot .now) (a .sheet .now) (a .out .now) (passes told) (chosen .choose-carried .result) left (chosen .choose-carried .ensures))
 
 same-length-3 : tie.Need-same-length-3
 same-length-3 c = search needs
 
 returns-3 : tie.Need-returns-3
-returns-3 c =
-    let start = c .before .before .before .before .before .before .before .before .before .before .before .before .before in
-    subst (λ (r : Listed). FirstDoes (start .args .maker .now) (start .args .depot .now) (start .args .sheet .now) (start .args .out .now) r (c .before .before .before .choose-carried .last .1 .1 .1 .1 .1 .1 .0)) (ap listedFor (c .if1 .left))
-    (first-does (start .args .maker .now) (start .args .depot .now) (start .args .sheet .now) (start .args .out .now) (passes (c .before .before .before .before .before)) (c .before .before .before .choose-carried .result) (c .before .before .before .choose-carried .last .1 .1 .1 .1 .1 .1 .0) (c .before .before .before .choose-carried .ensures))
+returns-3 c = 
+    let chosen = c .before .before .before in
+    let told = chosen .before .before in
+    let a = called (told .before .before) .args in
+    let left = chosen .choose-carried .last .1 .1 .1 .1 .1 .1 .0 in
+    subst (λ (r : Listed). FirstDoes (a .maker .now) (a .depot .now) (a .sheet .now) (a .out .now) r left) (ap listedAs (c .if1 .left))
+    (first-does (a .maker .now) (a .depot .now) (a .sheet .now) (a .out .now) (passes told) (chosen .choose-carried .result) left (chosen .choose-carried .ensures))
 
 pub first-spec : {M : Type 1} → statement M
 first-spec =

@@ -2,13 +2,26 @@
 -- Assumes nothing.
 use mathlib.Core.Path.{_≡_, sym, ap, subst, _∙_}
 use Rattle.spec.specs.Refusals.{passed, judge, nextChecks}
+use Rattle.spec.specs.Kits.{headOf, handsOut, kitsAfter, nextSays, nextWrites}
+use Rattle.spec.proofs.Judge.{does-refused}
+use Rattle.spec.proofs.Accepted.{next-accepted}
 use Rattle.accept.specs.Form.{formSays}
-use Rattle.answers.specs.declared.Listed.{Listed}
+use Rattle.lists.specs.declared.Listed.{Listed}
 use Rattle.lists.specs.Answer.{NextDoes}
-use Rattle.lists.proofs.Calls.{listedFor, next-refuses, next-call, next-does}
+use Rattle.lists.proofs.Calls.{listedAs, next-does}
 use borrow.Author.Needs.{needs}
 use Rattle.lists.proofs.next.Statement.{statement}
 use Rattle.lists.proofs.next.Tie as tie
+
+-- what the function was called with
+abbrev called : tie.After-check-next → tie.Start
+called c = c .before .before .before .before .before .before .before
+
+-- the checks have passed
+passes : (c : tie.After-enum-told) →
+    let a = called (c .before .before) .args in
+    judge (nextChecks (a .maker .now) (a .depot .now) (a .sheet .now) (a .given .now) (a .out .now)) passed ≡ passed
+passes c = sym (ap formSays (sym (c .enum-told .given .1)) ∙ c .before .before .check-next .ensures)
 
 check-next-requires : tie.Need-check-next-requires
 check-next-requires c κs = search needs
@@ -20,39 +33,46 @@ same-length : tie.Need-same-length
 same-length c = search needs
 
 returns : tie.Need-returns
-returns c =
-    let start = c .before .before .before .before .before .before .before .before .before .before in
-    next-refuses (start .args .maker .now) (start .args .depot .now) (start .args .sheet .now) (start .args .given .now) (start .args .out .now) (c .before .form .given .0 .0)
-    (ap formSays (sym (c .before .form .given .1)) ∙ c .before .before .before .check-next .ensures)
+unfolding nextSays nextWrites
+returns c = 
+    let checked = c .before .before .before in
+    let a = called checked .args in
+    let all = kitsAfter (a .maker .now) (a .depot .now) (a .sheet .now) (a .given .now) in
+    does-refused (nextChecks (a .maker .now) (a .depot .now) (a .sheet .now) (a .given .now) (a .out .now)) (handsOut all) (headOf all) (a .out .now)
+    (sym (ap formSays (sym (c .before .form .given .1)) ∙ checked .check-next .ensures))
 
 enum-told : tie.Need-enum-told
 enum-told c = search needs
 
-passes : (c : tie.After-enum-told) → judge (nextChecks (c .before .before .before .before .before .before .before .before .before .args .maker .now) (c .before .before .before .before .before .before .before .before .before .args .depot .now) (c .before .before .before .before .before .before .before .before .before .args .sheet .now) (c .before .before .before .before .before .before .before .before .before .args .given .now) (c .before .before .before .before .before .before .before .before .before .args .out .now)) passed ≡ passed
-passes c = sym (ap formSays (sym (c .enum-told .given .1)) ∙ c .before .before .check-next .ensures)
-
 choose-carried-requires : tie.Need-choose-carried-requires
-choose-carried-requires c κs =
-    let start = c .before .before .before .before .before .before .before .before .before .before in
-    next-call (start .args .maker .now) (start .args .depot .now) (start .args .sheet .now) (start .args .given .now) (start .args .out .now) (passes (c .before))
+choose-carried-requires c κs = 
+    let a = called (c .before .before .before) .args in
+    let known = next-accepted (a .maker .now) (a .depot .now) (a .sheet .now) (a .given .now) (a .out .now) (passes (c .before)) in
+    (known .order, (known .out-length, λ e. known .given-length))
 
 same-length-2 : tie.Need-same-length-2
 same-length-2 c = search needs
 
 returns-2 : tie.Need-returns-2
-returns-2 c =
-    let start = c .before .before .before .before .before .before .before .before .before .before .before .before .before .before in
-    subst (λ (r : Listed). NextDoes (start .args .maker .now) (start .args .depot .now) (start .args .sheet .now) (start .args .given .now) (start .args .out .now) r (c .before .before .before .choose-carried .last .1 .1 .1 .1 .1 .1 .0)) (ap listedFor (c .if1 .taken))
-    (next-does (start .args .maker .now) (start .args .depot .now) (start .args .sheet .now) (start .args .given .now) (start .args .out .now) (passes (c .before .before .before .before .before)) (c .before .before .before .choose-carried .result) (c .before .before .before .choose-carried .last .1 .1 .1 .1 .1 .1 .0) (c .before .before .before .choose-carried .ensures))
+returns-2 c = 
+    let chosen = c .before .before .before in
+    let told = chosen .before .before in
+    let a = called (told .before .before) .args in
+    let left = chosen .choose-carried .last .1 .1 .1 .1 .1 .1 .0 in
+    subst (λ (r : Listed). NextDoes (a .maker .now) (a .depot .now) (a .sheet .now) (a .given .now) (a .out .now) r left) (ap listedAs (c .if1 .taken))
+    (next-does (a .maker .now) (a .depot .now) (a .sheet .now) (a .given .now) (a .out .now) (passes told) (chosen .choose-carried .result) left (chosen .choose-carried .ensures))
 
 same-length-3 : tie.Need-same-length-3
 same-length-3 c = search needs
 
 returns-3 : tie.Need-returns-3
-returns-3 c =
-    let start = c .before .before .before .before .before .before .before .before .before .before .before .before .before .before in
-    subst (λ (r : Listed). NextDoes (start .args .maker .now) (start .args .depot .now) (start .args .sheet .now) (start .args .given .now) (start .args .out .now) r (c .before .before .before .choose-carried .last .1 .1 .1 .1 .1 .1 .0)) (ap listedFor (c .if1 .left))
-    (next-does (start .args .maker .now) (start .args .depot .now) (start .args .sheet .now) (start .args .given .now) (start .args .out .now) (passes (c .before .before .before .before .before)) (c .before .before .before .choose-carried .result) (c .before .before .before .choose-carried .last .1 .1 .1 .1 .1 .1 .0) (c .before .before .before .choose-carried .ensures))
+returns-3 c = 
+    let chosen = c .before .before .before in
+    let told = chosen .before .before in
+    let a = called (told .before .before) .args in
+    let left = chosen .choose-carried .last .1 .1 .1 .1 .1 .1 .0 in
+    subst (λ (r : Listed). NextDoes (a .maker .now) (a .depot .now) (a .sheet .now) (a .given .now) (a .out .now) r left) (ap listedAs (c .if1 .left))
+    (next-does (a .maker .now) (a .depot .now) (a .sheet .now) (a .given .now) (a .out .now) (passes told) (chosen .choose-carried .result) left (chosen .choose-carried .ensures))
 
 pub next-spec : {M : Type 1} → statement M
 next-spec =
