@@ -57,14 +57,16 @@ module _ {maker depot : List ℕ} {n : ℕ} {s given : List ℕ} {after : Bool} 
 
     past : OpenFrom n t
     past =
-        filled-past (rulesIn maker depot) n s t (ready .past) (ready .cells .sheet) (looked .rest .0 .sheet) (looked .rest .0 .keeps) (looked .rest .0 .derived)
+        let grown = looked .rest .0 in
+        filled-past (rulesIn maker depot) n s t (ready .past) (ready .cells .sheet) (grown .sheet) (grown .keeps) (grown .derived)
         (within-good n (rulesIn maker depot) good)
 
     -- an answer for the filled sheet is one for the sheet
     filled-trial : (found : Bool) (l : List ℕ) → AnswerTo (Wanted (rulesIn maker depot) n t after given) found l →
         AnswerTo (Wanted (rulesIn maker depot) n s after given) found l
     filled-trial found l a =
-        filled-answer (rulesIn maker depot) n s t (ready .past) (ready .cells .sheet) (looked .rest .0 .sheet) (looked .rest .0 .keeps) (looked .rest .0 .derived)
+        let grown = looked .rest .0 in
+        filled-answer (rulesIn maker depot) n s t (ready .past) (ready .cells .sheet) (grown .sheet) (grown .keeps) (grown .derived)
         after given found l a
 
     -- an answer with the bound that is left is one with the bound that was asked

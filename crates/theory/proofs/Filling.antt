@@ -25,7 +25,8 @@ use Rattle.theory.proofs.States.{sheet-codes}
 use Rattle.theory.proofs.Numbered.{rules-good}
 
 -- where 7 is said, and where a number of boxes is, by whether 7 and 8 apply
-seven-said : (seven eight : Bool) (place k : ℕ) → cond seven (refused (reason 7 0)) (cond eight (refused (reason 8 place)) (answered k)) ≡ refused (reason 7 0) → seven ≡ true
+seven-said : (seven eight : Bool) (place k : ℕ) →
+    cond seven (refused (reason 7 0)) (cond eight (refused (reason 8 place)) (answered k)) ≡ refused (reason 7 0) → seven ≡ true
 seven-said true eight place k e = refl
 seven-said false true place k e = let z : _≡_ {A = ℕ} 8 7 = cc in absurd (omega arith)
 seven-said false false place k e = let z : _≡_ {A = ℕ} 0 1 = cc in absurd (omega arith)

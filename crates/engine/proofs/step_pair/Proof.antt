@@ -12,7 +12,8 @@ use Rattle.theory.proofs.Stepping.{new-sheet, step-clash}
 use Rattle.engine.specs.Moves.{RulesFired}
 use Rattle.engine.specs.declared.Move.{Move}
 use Rattle.engine.specs.declared.Move.the-variants.{Still, Moved}
-use Rattle.engine.proofs.OneRecord.{Fires, x-below, y-below, state-below, missing-state, fires-read, moved-x, moved-y, none-moved, stored-pair, missing-z}
+use Rattle.engine.proofs.OneRecord.{Fires, x-below, y-below, state-below, missing-state}
+use Rattle.engine.proofs.OneRecord.{fires-read, moved-x, moved-y, none-moved, stored-pair, missing-z}
 use Rattle.engine.proofs.step_pair.Statement.{statement}
 use Rattle.engine.proofs.step_pair.Tie as tie
 

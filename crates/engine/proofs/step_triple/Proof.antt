@@ -12,7 +12,8 @@ use Rattle.theory.proofs.Stepping.{new-sheet, step-clash}
 use Rattle.engine.specs.Moves.{RulesFired}
 use Rattle.engine.specs.declared.Move.{Move}
 use Rattle.engine.specs.declared.Move.the-variants.{Still, Moved}
-use Rattle.engine.proofs.OneRecord.{Fires, x-below, y-below, z-below, state-below, there-state, fires-read, moved-x, moved-y, moved-z, none-moved, stored-triple}
+use Rattle.engine.proofs.OneRecord.{Fires, x-below, y-below, z-below, state-below, there-state}
+use Rattle.engine.proofs.OneRecord.{fires-read, moved-x, moved-y, moved-z, none-moved, stored-triple}
 use Rattle.engine.proofs.step_triple.Statement.{statement}
 use Rattle.engine.proofs.step_triple.Tie as tie
 
@@ -105,7 +106,8 @@ returns-6 c =
 
 returns-7 : tie.Need-returns-7
 returns-7 c =
-    let fired = c .before .before .before .before .before .before in
+    let here = c .before .before .before in
+    let fired = here .before .before .before in
     let input = start fired .pre .1 in
     stored fired Still
     (none-moved input (firing fired) (c .before .before .if4 .left) (c .before .if5 .left)

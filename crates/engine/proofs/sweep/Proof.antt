@@ -45,11 +45,11 @@ record-at-requires c κs = (start (c .before) .pre .0 .whole, omega (arith, c .b
 
 step-requires : tie.Need-step-requires Inv-loop μ-loop
 step-requires c κs =
-    let turn = c .before .before .before in
+    let at-loop = c .before .before .before in
     record {
       good =
-          rw (c .before .record-at .ensures) (start turn .pre .0 .good (turn .loop .i) (omega (arith, turn .before .count .ensures)));
-      cells = turn .loop .inv .1;
+          rw (c .before .record-at .ensures) (start at-loop .pre .0 .good (at-loop .loop .i) (omega (arith, at-loop .before .count .ensures)));
+      cells = at-loop .loop .inv .1;
     }
 
 enum-told : tie.Need-enum-told Inv-loop μ-loop

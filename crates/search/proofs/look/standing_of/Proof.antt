@@ -2,6 +2,7 @@
 -- Assumes nothing.
 use mathlib.Core.Path.{_≡_, refl, sym}
 use mathlib.Core.Logic.{inr}
+use mathlib.Core.List.{List}
 use Prim.Native.Nat.{ℕ, _-_, _≤_, _<_}
 use native.Mathlib.Omega.{arith}
 use borrow.Author.Needs.{needs}
@@ -20,29 +21,54 @@ abbrev μ-loop : tie.MeasureT-loop
 loop-holds : tie.Need-loop-holds Inv-loop μ-loop
 loop-holds c = (search needs, below-none _)
 
+-- what the code reads at box c, inside both lists, is what stands there
+abbrev states : tie.In-loop Inv-loop μ-loop → List ℕ
+states c = c .before .before .args .states .now
+
+abbrev given : tie.In-loop Inv-loop μ-loop → List ℕ
+given c = c .before .before .args .given .now
+
+abbrev box : tie.In-loop Inv-loop μ-loop → ℕ
+box c = c .before .loop .c
+
+states-read : (c : tie.In-loop Inv-loop μ-loop) → getD (states c) (box c) 0 ≡ getD (states c) (box c) 2
+states-read c = getD-default (states c) (box c) 0 2 (omega (arith, c .before .before .pre .0))
+
+given-read : (c : tie.In-loop Inv-loop μ-loop) → getD (given c) (box c) 0 ≡ getD (given c) (box c) 2
+given-read c = getD-default (given c) (box c) 0 2 (omega (arith, c .before .before .pre .1))
+
+-- where the loop's body begins, from its first test and from its second
+abbrev from1 : tie.After-shared-slice-known2 Inv-loop μ-loop → tie.In-loop Inv-loop μ-loop
+from1 c = c .before .before
+
+abbrev from2 : tie.After-shared-slice-known4 Inv-loop μ-loop → tie.In-loop Inv-loop μ-loop
+from2 c = from1 (c .before .before .before)
+
 shared-slice-read-if1 : tie.Need-shared-slice-read-if1 Inv-loop μ-loop
 shared-slice-read-if1 c = omega (arith, c .before .before .before .pre .0)
 
 shared-slice-read-if1-2 : tie.Need-shared-slice-read-if1-2 Inv-loop μ-loop
-shared-slice-read-if1-2 c = omega (arith, c .before .before .before .before .pre .1)
+shared-slice-read-if1-2 c = omega (arith, from1 c .before .before .pre .1)
 
 returns : tie.Need-returns Inv-loop μ-loop
 returns c =
-    let start = c .before .before .before .before .before in
-    let l = c .before .before .before .before .loop in
-    (refl, (l .c, omega arith, record { same = l .inv .1; less = omega (arith, c .if1 .taken, getD-default (start .args .states .now) (l .c) 0 2 (omega (arith, start .pre .0)), getD-default (start .args .given .now) (l .c) 0 2 (omega (arith, start .pre .1))) }))
+    let here = from1 (c .before) in
+    (refl, (box here, omega arith, record { same = here .before .loop .inv .1; less = omega (arith, c .if1 .taken, states-read here, given-read here) }))
 
 shared-slice-read-if2 : tie.Need-shared-slice-read-if2 Inv-loop μ-loop
-shared-slice-read-if2 c = omega (arith, c .before .before .before .before .before .before .pre .1)
+shared-slice-read-if2 c = let here = from1 (c .before .before) in omega (arith, here .before .before .pre .1)
 
 shared-slice-read-if2-2 : tie.Need-shared-slice-read-if2-2 Inv-loop μ-loop
-shared-slice-read-if2-2 c = omega (arith, c .before .before .before .before .before .before .before .pre .0)
+shared-slice-read-if2-2 c = omega (arith, from2 c .before .before .pre .0)
 
 returns-2 : tie.Need-returns-2 Inv-loop μ-loop
 returns-2 c =
-    let start = c .before .before .before .before .before .before .before .before in
-    let l = c .before .before .before .before .before .before .before .loop in
-    inr (l .c, omega arith, record { same = λ i h. sym (l .inv .1 i h); less = omega (arith, c .if2 .taken, getD-default (start .args .states .now) (l .c) 0 2 (omega (arith, start .pre .0)), getD-default (start .args .given .now) (l .c) 0 2 (omega (arith, start .pre .1))) })
+    let here = from2 (c .before) in
+    inr (
+      box here,
+      omega arith,
+      record { same = λ i h. sym (here .before .loop .inv .1 i h); less = omega (arith, c .if2 .taken, states-read here, given-read here) },
+    )
 
 add-c : tie.Need-add-c Inv-loop μ-loop
 add-c c = search needs
@@ -52,10 +78,11 @@ loop-less c = search needs
 
 loop-again : tie.Need-loop-again Inv-loop μ-loop
 loop-again c =
-    let start = c .before .before .before .before .before .before .before .before in
-    let l = c .before .before .before .before .before .before .before .loop in (
+    let here = from2 (c .before) in
+    let passed1 = c .before .before .before in (
       search needs,
-      below-more _ _ (l .inv .1) (omega (arith, c .if2 .left, c .before .before .before .if1 .left, getD-default (start .args .states .now) (l .c) 0 2 (omega (arith, start .pre .0)), getD-default (start .args .given .now) (l .c) 0 2 (omega (arith, start .pre .1)))),
+      below-more _ _ (here .before .loop .inv .1)
+          (omega (arith, c .if2 .left, passed1 .if1 .left, states-read here, given-read here)),
     )
 
 returns-3 : tie.Need-returns-3 Inv-loop μ-loop

@@ -13,7 +13,8 @@ standing-of-requires c κs = (c .before .before .before .pre .0, c .before .befo
 returns : tie.Need-returns
 returns c =
     let start = c .before .before .before .before .args in
-    subst (λ (after : Bool). Stands (start .states .now) (start .given .now) (start .b) after (c .standing-of .result)) (sym (c .before .if1 .taken)) (c .standing-of .ensures)
+    subst (λ (after : Bool). Stands (start .states .now) (start .given .now) (start .b) after (c .standing-of .result))
+    (sym (c .before .if1 .taken)) (c .standing-of .ensures)
 
 returns-2 : tie.Need-returns-2
 returns-2 c = inl (c .if1 .left)
