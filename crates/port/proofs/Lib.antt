@@ -1,1 +1,2 @@
-mod Shown
+pub mod Answered
+pub mod Shown
