@@ -4,7 +4,7 @@ use native.Mathlib.Omega.{arith}
 use borrow.Author.Needs.{needs}
 use Rattle.text.proofs.Puts.{put-then, put-length}
 use Rattle.report.specs.Listing.{listLine}
-use Rattle.layout.proofs.Digits.{digits-length}
+use Rattle.report.proofs.Digits.{digits-length}
 use Rattle.report.proofs.lines.put_list.Statement.{statement}
 use Rattle.report.proofs.lines.put_list.Tie as tie
 

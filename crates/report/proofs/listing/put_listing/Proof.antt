@@ -1,22 +1,55 @@
 -- `report::listing::put_listing` meets its contract: what is put is the listing by what Fill says.
 -- Assumes nothing.
+use mathlib.Core.Path.{_≡_, ap, _∙_}
+use mathlib.Core.List.{List, [], _∷_}
+use Prim.Native.Nat.{ℕ}
 use native.Mathlib.Omega.{arith}
-use Rattle.spec.specs.Records.{recordCount}
+use borrow.Author.Needs.{needs}
+use Rattle.spec.specs.Refusals.{refused, answered}
 use Rattle.spec.specs.Kits.{kits}
 use Rattle.text.proofs.Rooms.{room-then, room-within, room-length}
-use Rattle.answers.specs.Says.{filledSays}
-use Rattle.answers.proofs.Codes.{code-refused, filled-done}
-use Rattle.report.specs.Listing.{kitLines}
+use Rattle.refusals.specs.Numbering.{doneWith, inOrder}
+use Rattle.refusals.specs.Words.{refusalIn}
+use Rattle.refusals.proofs.Told.{told-refused, told-answered}
+use Rattle.fill.specs.Answer.{filledSays}
+use Rattle.fill.proofs.Unique.{count-codes}
+use Rattle.report.specs.Listing.{kitLines, page}
 use Rattle.report.proofs.Filling.{passed-boxes, filled-passed, listing-filled, listing-refused}
-use borrow.Author.Needs.{needs}
 use Rattle.report.proofs.listing.put_listing.Statement.{statement}
 use Rattle.report.proofs.listing.put_listing.Tie as tie
+
+-- the call of Fill, and what this function was called with
+abbrev fill-of : tie.After-numbers → tie.After-fill
+fill-of c = c .before .before .before
+
+abbrev called : tie.After-fill → tie.Start
+called c = c .before .before .before .before .before .before .before .before .before
+
+-- Fill has refused
+refused-said : (c : tie.Then1) →
+    let numbers = c .before .before in
+    filledSays (fill-of numbers .fill .result) ≡ refused (refusalIn (numbers .numbers .result))
+refused-said c =
+    let numbers = c .before .before in
+    told-refused doneWith count-codes (numbers .numbers .result) (filledSays (fill-of numbers .fill .result)) (numbers .numbers .ensures) (c .if1 .taken)
+
+-- Fill has said a number of boxes
+filled-said : (c : tie.Else1) →
+    let numbers = c .before .before in
+    filledSays (fill-of numbers .fill .result) ≡ answered (numbers .numbers .result .first)
+filled-said c =
+    let numbers = c .before .before in
+    let said =
+    told-answered doneWith count-codes (numbers .numbers .result) (filledSays (fill-of numbers .fill .result)) (numbers .numbers .ensures) (c .if1 .left) in
+    let order : inOrder (numbers .numbers .result) ≡ 0 ∷ said .0 ∷ 0 ∷ [] = said .2 in
+    let first : said .0 ≡ numbers .numbers .result .first = cc in
+    said .1 ∙ ap answered first
 
 fill-requires : tie.Need-fill-requires
 fill-requires c κs = search needs
 
-of-filled-requires : tie.Need-of-filled-requires
-of-filled-requires c κs = search needs
+numbers-requires : tie.Need-numbers-requires
+numbers-requires c κs = search needs
 
 put-refused-requires : tie.Need-put-refused-requires
 put-refused-requires c κs = search needs
@@ -28,17 +61,18 @@ same-length-2 : tie.Need-same-length-2
 same-length-2 c = search needs
 
 returns : tie.Need-returns
-returns c =
-    let start = c .before .before .before .before .before .before .before .before .before .before .before .before .before .before .before .before .before .before in
-    let fill = c .before .before .before .before .before .before .before .before .before .fill in
-    let said = code-refused _ (filledSays (fill .result)) (c .before .before .before .before .before .before .of-filled .ensures) (c .before .before .before .before .if1 .taken) in
+returns c = 
+    let put = c .before .before in
+    let said = refused-said (put .before .before) in
+    let asked = fill-of (put .before .before .before .before) in
+    let start = called asked in
     rw
     (listing-refused (start .args .maker .now) (start .args .depot .now) (start .args .sheet .now) (start .args .filled .now) (start .pre .0)
-    (fill .result) (fill .last .1 .1 .1 .0) (fill .ensures) _ _ said)
-    (room-within 17000 (omega arith) (c .before .before .put-refused .ensures))
+    (asked .fill .result) (asked .fill .last .1 .1 .1 .0) (asked .fill .ensures) _ said)
+    (room-within page (omega arith) (put .put-refused .ensures))
 
-add-rules : tie.Need-add-rules
-add-rules c = search needs
+count-requires : tie.Need-count-requires
+count-requires c κs = search needs
 
 count-open-requires : tie.Need-count-open-requires
 count-open-requires c κs = search needs
@@ -47,17 +81,18 @@ put-header-requires : tie.Need-put-header-requires
 put-header-requires c κs = search needs
 
 put-kits-requires : tie.Need-put-kits-requires
-put-kits-requires c κs =
-    let start = c .before .before .before .before .before .before .before .before .before .before .before .before .before .before .before .before .before .before .before .before .before .before .before in
-    let fill = c .before .before .before .before .before .before .before .before .before .before .before .before .before .before .fill in
-    let header = c .before .before .before .before .before .put-header .ensures in
-    let said = filled-done _ (fill .result) (c .before .before .before .before .before .before .before .before .before .before .before .of-filled .ensures) (c .before .before .before .before .before .before .before .before .before .if1 .left) in
+put-kits-requires c κs = 
+    let header = c .before .before .before .before .before in
+    let filled = header .before .before .before .before .before in
+    let asked = fill-of (filled .before .before) in
+    let start = called asked in
     let passes =
     filled-passed (start .args .maker .now) (start .args .depot .now) (start .args .sheet .now) (start .args .filled .now) (start .pre .0)
-    (fill .result) (fill .last .1 .1 .1 .0) (fill .ensures) _ said in
-    let few = passed-boxes (start .args .maker .now) (start .args .depot .now) (start .args .sheet .now) passes in (
+    (asked .fill .result) (asked .fill .last .1 .1 .1 .0) (asked .fill .ensures) _ (filled-said filled) in
+    let few = passed-boxes (start .args .maker .now) (start .args .depot .now) (start .args .sheet .now) passes in
+    let puts = header .put-header .ensures in (
       record { passes = passes; size = start .pre .1 .1 .0 .size few },
-      (start .pre .1 .0 .size few, omega (arith, header .short, room-length header, start .pre .1 .1 .1)),
+      (start .pre .1 .0 .size few, omega (arith, puts .short, room-length puts, start .pre .1 .1 .1)),
     )
 
 same-length-3 : tie.Need-same-length-3
@@ -73,29 +108,34 @@ same-length-6 : tie.Need-same-length-6
 same-length-6 c = search needs
 
 returns-2 : tie.Need-returns-2
-unfolding recordCount
-returns-2 c =
-    let start = c .before .before .before .before .before .before .before .before .before .before .before .before .before .before .before .before .before .before .before .before .before .before .before .before .before .before .before .before .before .before in
-    let fill = c .before .before .before .before .before .before .before .before .before .before .before .before .before .before .before .before .before .before .before .before .before .fill in
-    let said = filled-done _ (fill .result) (c .before .before .before .before .before .before .before .before .before .before .before .before .before .before .before .before .before .before .of-filled .ensures) (c .before .before .before .before .before .before .before .before .before .before .before .before .before .before .before .before .if1 .left) in
+returns-2 c = 
+    let kitted = c .before .before .before .before .before .before in
+    let header = kitted .before .before .before .before .before .before in
+    let counted = header .before .before in
+    let filled = counted .before .before .before in
+    let asked = fill-of (filled .before .before) in
+    let start = called asked in
     rw (
       listing-filled (start .args .maker .now) (start .args .depot .now) (start .args .sheet .now) (start .args .filled .now) (start .pre .0)
-          (fill .result) (fill .last .1 .1 .1 .0) (fill .ensures) _ said,
-      ← c .before .before .before .before .before .before .before .before .before .before .before .before .before .before .count-open .ensures,
+          (asked .fill .result) (asked .fill .last .1 .1 .1 .0) (asked .fill .ensures) _ (filled-said filled),
+      ← counted .count-open .ensures,
+      ← counted .before .before .count .ensures,
     )
-    (room-within 17000 (omega arith) (room-then {b = kitLines (kits (start .args .maker .now) (start .args .depot .now) (start .args .sheet .now))} (c .before .before .before .before .before .before .before .before .before .before .before .before .put-header .ensures) (c .before .before .before .before .before .before .put-kits .ensures)))
+    (room-within page (omega arith)
+    (room-then {b = kitLines (kits (start .args .maker .now) (start .args .depot .now) (start .args .sheet .now))}
+    (header .put-header .ensures) (kitted .put-kits .ensures)))
 
 pub put-listing-spec : {M : Type 1} → statement M
 put-listing-spec =
     tie.close
     (tie.spec
     fill-requires
-    of-filled-requires
+    numbers-requires
     put-refused-requires
     same-length
     same-length-2
     returns
-    add-rules
+    count-requires
     count-open-requires
     put-header-requires
     put-kits-requires
