@@ -9,8 +9,8 @@
  * A null pointer with length 0 stands for nothing; the functions below put a valid address in its place.
  *
  * A sheet is one byte a box: 0 out, 1 in, 2 open; a list is a sheet with no 2. There are at most 256 boxes. A table holds
- * records of eight bytes, at most 1,024 in both tables together: byte 0 the kind, byte 1 zero, then the boxes x, y, z, two bytes
- * each, the low one first.
+ * records of eight bytes, at most 1,024 in both tables together: byte 0 the kind, byte 1 zero, then the boxes x, y, z, two
+ * bytes each, the low one first.
  *
  *   kind   rule          z
  *   1 EQU  x = y         65535, for none
