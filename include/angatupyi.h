@@ -8,6 +8,25 @@
  *
  * A null pointer with length 0 stands for nothing; the functions below put a valid address in its place.
  *
+ * A sheet is one byte a box: 0 out, 1 in, 2 open; a list is a sheet with no 2. There are at most 256 boxes. A table holds
+ * records of eight bytes, at most 1,024 in both tables together: byte 0 the kind, byte 1 zero, then the boxes x, y, z, two
+ * bytes each, the low one first.
+ *
+ *   kind   rule          z
+ *   1 EQU  x = y         65535, for none
+ *   2 NOT  not x = y     65535, for none
+ *   3 AND  x and y = z   a box
+ *   4 OR   x or y = z    a box
+ *
+ * A record is bad if its kind is not 1 to 4, byte 1 is not 0, a box that it names is not below the number of boxes (for Test,
+ * the list's length), kind 1 or 2 has z other than 65535, or two boxes that it names are equal.
+ *
+ * "Box 0 needs box 1" takes a helper, box 2: box 0 and box 1 = box 2, box 0 = box 2. Its lists are 000, 010 and 111. As bytes:
+ *
+ *   {3, 0, 0, 0, 1, 0, 2, 0}   {1, 0, 0, 0, 2, 0, 255, 255}
+ *
+ * docs/FORMAT.md has more on it.
+ *
  *   answer        [0]                  [1]                       [2]
  *   test          ANGATUPYI_DONE       0                         0          the list fits
  *                 ANGATUPYI_BROKEN     the first broken record   0
