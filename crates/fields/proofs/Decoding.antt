@@ -91,7 +91,7 @@ bytes-short (a ∷ b ∷ l) h = absurd (omega arith)
 -- of the field, i characters are decoded: what is left to put at `next` makes the whole
 pub record Decoding (f old : List ℕ) (at : ℕ) (new : List ℕ) (next i : ℕ) : Type 0 where
   pub within : i ≤ length f
-  pub below : next ≤ at + i
+  pub below : 2 * next ≤ 2 * at + i
   pub size : length new ≡ length old
   pub puts : sets old at (bytesIn f) ≡ sets new next (bytesIn (drop i f))
   pub count : at + length (bytesIn f) ≡ next + length (bytesIn (drop i f))

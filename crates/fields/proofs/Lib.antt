@@ -4,5 +4,6 @@ pub mod Digits
 pub mod Decoding
 pub mod Pieces
 pub mod Taking
-pub mod Held
 pub mod Texts
+pub mod Looking
+pub mod Samples

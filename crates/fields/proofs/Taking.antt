@@ -1,73 +1,254 @@
--- Three fields taken one after the other: their parts stand at the front of the buffer.
+-- Fields decoded one after the other into one buffer: their parts stand at its front, and the ends say where.
 -- Assumes nothing.
-use mathlib.Core.Path.{_≡_, refl, _∙_, ap}
-use mathlib.Core.List.{List, [], _∷_, _++_}
-use Prim.Native.Nat.{ℕ, _+_, _≤_, _<_}
+use mathlib.Core.Path.{_≡_, refl, sym, _∙_, ap}
+use mathlib.Core.Bool.{true}
+use mathlib.Core.List.{List, [], _∷_, _++_, append-assoc, append-nil}
+use Prim.Native.Nat.{ℕ, zero, suc, _+_, _*_, _-_, _≤_, _<_}
 use native.Mathlib.Omega.{arith}
-use lib.ListN.{length, getD, take, drop}
+use native.Mathlib.Numerals.{add-one}
+use native.Mathlib.Decide.{decLt, ℕ-discrete}
+use lib.ListN.{length, getD, set, take, drop, length-append, length-set, List·getD-eq-default}
+use lib.Seq.{take-all, length-take-le, getD-set-same, getD-set-other}
+use Rattle.lemmas.specs.Lists.{all}
+use Rattle.lemmas.proofs.Tests.{T-true, true-T, both-left, both-right}
+use Rattle.text.specs.Spelling.{spelt}
+use Rattle.text.specs.Putting.{Put}
 use Rattle.text.proofs.Puts.{put-length, put-front}
-use Rattle.fields.specs.Fields.{fieldsOf, fieldAt, bytesIn}
-use Rattle.fields.specs.Parts.{HasFields, Taken, ThreeParts}
-use Rattle.fields.specs.declared.parts.Place.{Place}
-use Rattle.fields.proofs.Splitting.{end-below, first-piece, next-pieces}
-use Rattle.fields.proofs.Pieces.{has-next}
+use Rattle.fields.specs.Cuts.{until}
+use Rattle.fields.specs.Fields.{fieldsOf, fieldAt, isField, bytesIn, part}
+use Rattle.fields.specs.Ends.{partIn, EndsInOrder, RightFields, PartsTaken}
+use Rattle.fields.proofs.Splitting.{end-below, piece-length}
+use Rattle.fields.proofs.Pieces.{fieldsFrom, fields-some, fields-none, fields-next, bytes-half, piece}
 
-module _ {line : List ℕ} {from : ℕ} {old : List ℕ} {at : ℕ} {new : List ℕ} {r : Place} (within : from ≤ length line) (t : Taken line from old at new r) where
-  -- the next field starts in the line, or just past it
-  pub taken-within : r .from ≤ length line + 1
-  taken-within = omega (arith, t .next, end-below 32 line from _ within refl)
+-- the bytes that fields give, one after the other
+abbrev pub bytesOf : List (List ℕ) → List ℕ
+bytesOf fs = spelt bytesIn fs
 
-  -- what stood before the part still does
-  pub taken-front : length line ≤ length old → take (r .at) new ≡ take at old ++ bytesIn (fieldAt line from)
-  taken-front room = put-front (omega (arith, t .puts .after, t .behind, taken-within)) (t .puts)
+bytes-append : (fs gs : List (List ℕ)) → bytesOf (fs ++ gs) ≡ bytesOf fs ++ bytesOf gs
+bytes-append [] gs = refl
+bytes-append (f ∷ fs) gs =
+    ap (λ (x : List ℕ). bytesIn f ++ x) (bytes-append fs gs) ∙ sym (append-assoc (bytesIn f) (bytesOf fs) (bytesOf gs))
 
-module _ {line : List ℕ} {from : ℕ} {old one two three : List ℕ} {a b c : Place} (h : HasFields line from 3) (room : length line ≤ length old)
-    (ta : Taken line from old 0 one a) (tb : Taken line (a .from) one (a .at) two b) (tc : Taken line (b .from) two (b .at) three c) where
-  has-two : HasFields line (a .from) 2
-  has-two = has-next h (a .from) 2 (ta .next) (omega arith) (omega arith)
+-- where part k starts
+unfoldable pub endOf : List (List ℕ) → ℕ → ℕ
+endOf fs k = length (bytesOf (take k fs))
 
-  has-one : HasFields line (b .from) 1
-  has-one = has-next has-two (b .from) 1 (tb .next) (omega arith) (omega arith)
+-- part k stands between those before it and those after it
+bytes-part : (fs : List (List ℕ)) (k : ℕ) → bytesOf fs ≡ bytesOf (take k fs) ++ (part fs k ++ bytesOf (drop (suc k) fs))
+bytes-part [] zero = refl
+bytes-part [] (suc k) = refl
+bytes-part (f ∷ fs) zero = refl
+bytes-part (f ∷ fs) (suc k) =
+    ap (λ (x : List ℕ). bytesIn f ++ x) (bytes-part fs k)
+    ∙ sym (append-assoc (bytesIn f) (bytesOf (take k fs)) (part fs k ++ bytesOf (drop (suc k) fs)))
 
-  split-one : fieldsOf (drop from line) ≡ fieldAt line from ∷ fieldsOf (drop (a .from) line)
-  split-one = next-pieces 32 line from (h .within) (omega (arith, h .enough)) (a .from) (ta .next)
+end-next : (fs : List (List ℕ)) (k : ℕ) → endOf fs (suc k) ≡ endOf fs k + length (part fs k)
+unfolding endOf
+end-next [] zero = refl
+end-next [] (suc k) = refl
+end-next (f ∷ fs) zero = omega (arith, length-append (bytesIn f) [])
+end-next (f ∷ fs) (suc k) =
+    let next : length (bytesOf (take (suc k) fs)) ≡ length (bytesOf (take k fs)) + length (part fs k) = end-next fs k in
+    omega (
+      arith,
+      length-append (bytesIn f) (bytesOf (take (suc k) fs)),
+      length-append (bytesIn f) (bytesOf (take k fs)),
+    )
 
-  split-two : fieldsOf (drop (a .from) line) ≡ fieldAt line (a .from) ∷ fieldsOf (drop (b .from) line)
-  split-two = next-pieces 32 line (a .from) (has-two .within) (omega (arith, has-two .enough)) (b .from) (tb .next)
+end-below-all : (fs : List (List ℕ)) (k : ℕ) → endOf fs k ≤ length (bytesOf fs)
+unfolding endOf
+end-below-all fs k =
+    omega (
+      arith,
+      ap length (bytes-part fs k),
+      length-append (bytesOf (take k fs)) (part fs k ++ bytesOf (drop (suc k) fs)),
+    )
 
-  field-0 : getD (fieldsOf (drop from line)) 0 [] ≡ fieldAt line from
-  field-0 = rw split-one
+-- what stands at k, and after it
+module _ {f : List ℕ} {rest : List (List ℕ)} where
+  next-taken : (fs : List (List ℕ)) (k : ℕ) → drop k fs ≡ f ∷ rest → take (suc k) fs ≡ take k fs ++ f ∷ []
+  next-taken [] zero e = cc
+  next-taken [] (suc k) e = cc
+  next-taken (g ∷ fs) zero e = let same : g ≡ f = cc in rw same
+  next-taken (g ∷ fs) (suc k) e = ap (λ (l : List (List ℕ)). g ∷ l) (next-taken fs k e)
 
-  field-1 : getD (fieldsOf (drop from line)) 1 [] ≡ fieldAt line (a .from)
-  field-1 = rw (split-one, split-two)
+  next-left : (fs : List (List ℕ)) (k : ℕ) → drop k fs ≡ f ∷ rest → drop (suc k) fs ≡ rest
+  next-left [] zero e = cc
+  next-left [] (suc k) e = cc
+  next-left (g ∷ fs) zero e = cc
+  next-left (g ∷ fs) (suc k) e = next-left fs k e
 
-  field-2 : getD (fieldsOf (drop from line)) 2 [] ≡ fieldAt line (b .from)
-  field-2 = rw (split-one, split-two) (first-piece 32 line (b .from) (has-one .within))
+none-taken : (fs : List (List ℕ)) (k : ℕ) → drop k fs ≡ [] → take (suc k) fs ≡ take k fs
+none-taken [] zero e = refl
+none-taken [] (suc k) e = refl
+none-taken (g ∷ fs) zero e = cc
+none-taken (g ∷ fs) (suc k) e = ap (λ (l : List (List ℕ)). g ∷ l) (none-taken fs k e)
 
-  same-one : length one ≡ length old
-  same-one = put-length (ta .puts)
+none-left : (fs : List (List ℕ)) (k : ℕ) → drop k fs ≡ [] → drop (suc k) fs ≡ []
+none-left [] zero e = refl
+none-left [] (suc k) e = refl
+none-left (g ∷ fs) zero e = cc
+none-left (g ∷ fs) (suc k) e = none-left fs k e
 
-  same-two : length two ≡ length one
-  same-two = put-length (tb .puts)
+-- k fields are taken: the others start at `start`, and the parts end at `at`
+pub record Taking (line : List ℕ) (fs : List (List ℕ)) (size : ℕ) (bytes ends : List ℕ) (start at k : ℕ) : Type 0 where
+  pub most : k ≤ 8
+  pub same : length bytes ≡ size
+  pub nine : length ends ≡ 9
+  pub rest : drop k fs ≡ fieldsFrom line start
+  pub right : all isField (drop k fs) ≡ true
+  pub before : 2 * at ≤ start
+  pub half : 2 * at ≤ length line
+  pub front : take at bytes ≡ bytesOf (take k fs)
+  pub marks : (j : ℕ) → j ≤ k → getD ends j 0 ≡ endOf fs j
 
-  same-three : length three ≡ length two
-  same-three = put-length (tc .puts)
-
-  pub three-parts : ThreeParts line from three (record { maker = a .at; depot = b .at; third = c .at; from = c .from })
-  three-parts =
+module _ {line : List ℕ} {from : ℕ} (h : RightFields line from) where
+  pub taking-start : (bytes ends : List ℕ) → length ends ≡ 9 → getD ends 0 0 ≡ 0 →
+      Taking line (fieldsOf (drop from line)) (length bytes) bytes ends from 0 0
+  unfolding endOf
+  taking-start bytes ends nine zeros =
       record {
-        front =
-            taken-front (has-one .within) tc (omega (arith, same-one, same-two))
-            ∙ rw (taken-front (has-two .within) tb (omega (arith, same-one)), taken-front (h .within) ta room, field-0, field-1, field-2);
-        maker = rw field-0 (omega (arith, ta .puts .after));
-        depot = rw field-1 (tb .puts .after);
-        third = rw field-2 (tc .puts .after);
-        behind = tc .behind;
-        room = omega (arith, tc .behind, taken-within (has-one .within) tc, same-one, same-two, same-three);
-        rest = λ more.
-            let left : 1 < length (fieldsOf (drop (b .from) line)) = omega (arith, ap length split-one, ap length split-two) in
-            let split-three = next-pieces 32 line (b .from) (has-one .within) left (c .from) (tc .next) in (
-              has-next (record { within = has-one .within; enough = left; right = has-one .right }) (c .from) 1 (tc .next) (omega arith) (omega arith) .within,
-              rw (split-one, split-two, split-three),
-            );
+        most = omega arith;
+        same = refl;
+        nine = nine;
+        rest = sym (fields-some line from (h .within));
+        right = h .right;
+        before = omega arith;
+        half = omega arith;
+        front = refl;
+        marks = λ j none. let first : j ≡ 0 = omega arith in rw first zeros;
       }
+
+module _ {line : List ℕ} {fs : List (List ℕ)} {size : ℕ} {bytes ends : List ℕ} {start at k : ℕ}
+    (t : Taking line fs size bytes ends start at k) (room : length line ≤ 2 * size) where
+  place : at ≡ endOf fs k
+  unfolding endOf
+  place = sym (length-take-le at bytes (omega (arith, t .half, t .same))) ∙ ap length (t .front)
+
+  -- an end more is noted
+  marked : (next : ℕ) → next ≡ endOf fs (suc k) → k < 8 → (j : ℕ) → j ≤ suc k → getD (set ends (suc k) next) j 0 ≡ endOf fs j
+  marked next e more j below = at-mark (ℕ-discrete j (suc k))
+    where
+      at-mark : Dec (j ≡ suc k) → getD (set ends (suc k) next) j 0 ≡ endOf fs j
+      at-mark (yes last) = rw last (getD-set-same ends (suc k) next 0 (omega (arith, t .nine)) ∙ e)
+      at-mark (no other) = getD-set-other ends (suc k) j next 0 other ∙ t .marks j (omega arith)
+
+  -- no field is left
+  pub taking-none : k < 8 → length line < start → Taking line fs size bytes (set ends (k + 1) at) start at (k + 1)
+  unfolding endOf
+  taking-none more behind =
+      let left : drop k fs ≡ [] = t .rest ∙ fields-none line start behind in
+      rw add-one
+      (record {
+        most = omega arith;
+        same = t .same;
+        nine = length-set ends (suc k) at ∙ t .nine;
+        rest = none-left fs k left ∙ sym (fields-none line start behind);
+        right = rw (none-left fs k left);
+        before = t .before;
+        half = t .half;
+        front = t .front ∙ ap bytesOf (sym (none-taken fs k left));
+        marks = marked at (place ∙ ap (λ (l : List (List ℕ)). length (bytesOf l)) (sym (none-taken fs k left))) more;
+      })
+
+  -- the next field
+  module _ (inside : start ≤ length line) where
+    next-field : all isField (fieldsOf (drop start line)) ≡ true
+    next-field = ap (all isField) (sym (t .rest ∙ fields-some line start inside)) ∙ t .right
+
+    module _ (end : ℕ) (stop : end ≡ start + until 32 (drop start line)) where
+      left-fields : drop k fs ≡ fieldAt line start ∷ fieldsFrom line (end + 1)
+      left-fields = t .rest ∙ fields-some line start inside ∙ fields-next line start inside end stop
+
+      pub taking-field : isField (fieldAt line start) ≡ true
+      taking-field =
+          true-T _
+          (both-left (isField (fieldAt line start)) (all isField (fieldsFrom line (end + 1)))
+          (T-true (ap (all isField) (sym left-fields) ∙ t .right)))
+
+      pub taking-room : 2 * at + length (fieldAt line start) ≤ 2 * length bytes
+      taking-room =
+          omega (arith, t .before, t .same, piece-length 32 line start inside, end-below 32 line start end inside stop)
+
+      pub taking-next : {new : List ℕ} {next : ℕ} → k < 8 → Put bytes at (bytesIn (fieldAt line start)) new next →
+          Taking line fs size new (set ends (k + 1) next) (end + 1) next (k + 1)
+      unfolding endOf
+      taking-next {new} {next} more put =
+          rw add-one
+          (record {
+            most = omega arith;
+            same = put-length put ∙ t .same;
+            nine = length-set ends (suc k) next ∙ t .nine;
+            rest = next-left fs k left-fields;
+            right =
+                ap (all isField) (next-left fs k left-fields)
+                ∙ true-T _
+                (both-right (isField (fieldAt line start)) (all isField (fieldsFrom line (end + 1)))
+                (T-true (ap (all isField) (sym left-fields) ∙ t .right)));
+            before = omega (arith, halved);
+            half = omega (arith, halved, end-below 32 line start end inside stop);
+            front = fronted;
+            marks =
+                marked next
+                (sym (length-take-le next new (omega (arith, halved, end-below 32 line start end inside stop, put-length put, t .same)))
+                ∙ ap length fronted)
+                more;
+          })
+        where
+          halved : 2 * next ≤ end
+          halved =
+              omega (arith, t .before, put .after, bytes-half (fieldAt line start), piece-length 32 line start inside)
+
+          fronted : take next new ≡ bytesOf (take (suc k) fs)
+          fronted =
+              put-front (omega (arith, put .after, halved, end-below 32 line start end inside stop, t .same)) put
+              ∙ ap (λ (l : List ℕ). l ++ bytesIn (fieldAt line start)) (t .front)
+              ∙ ap (λ (l : List ℕ). bytesOf (take k fs) ++ l) (sym (append-nil (bytesIn (fieldAt line start))))
+              ∙ sym (bytes-append (take k fs) (fieldAt line start ∷ []))
+              ∙ ap bytesOf (sym (next-taken fs k left-fields))
+
+-- eight are taken: those are all
+module _ {line : List ℕ} {from : ℕ} (h : RightFields line from) {size : ℕ} {bytes ends : List ℕ} {start at : ℕ}
+    (t : Taking line (fieldsOf (drop from line)) size bytes ends start at 8) (room : length line ≤ 2 * size) where
+  fs : List (List ℕ)
+  fs = fieldsOf (drop from line)
+
+  whole : take at bytes ≡ bytesOf fs
+  unfolding fs
+  whole = t .front ∙ ap bytesOf (take-all 8 (fieldsOf (drop from line)) (h .few))
+
+  end-suc : (k : ℕ) → k < 8 → getD ends (k + 1) 0 ≡ getD ends k 0 + length (part fs k)
+  unfolding fs
+  end-suc k more =
+      rw add-one (t .marks (suc k) (omega arith) ∙ end-next fs k ∙ ap (λ (n : ℕ). n + length (part fs k)) (sym (t .marks k (omega arith))))
+
+  pub taken-order : EndsInOrder bytes ends
+  unfolding fs endOf
+  taken-order =
+      record {
+        order = λ k more. omega (arith, end-suc k more);
+        within = λ k most.
+            omega (arith, t .marks k most, end-below-all fs k, ap length whole, length-take-le at bytes fits, fits);
+      }
+    where
+      fits : at ≤ length bytes
+      fits = omega (arith, t .half, t .same)
+
+  pub taken-parts : PartsTaken line from bytes ends
+  unfolding fs endOf
+  taken-parts =
+      record {
+        ordered = taken-order;
+        parts = λ k. at-part k (decLt k 8);
+        half = omega (arith, t .half, t .marks 8 (omega arith), place t room);
+      }
+    where
+      at-part : (k : ℕ) → Dec (k < 8) → partIn bytes ends k ≡ part (fieldsOf (drop from line)) k
+      at-part k (yes more) =
+          piece bytes (bytesOf (take k fs)) (part fs k) (bytesOf (drop (suc k) fs)) at (getD ends k 0) (getD ends (k + 1) 0)
+          (whole ∙ bytes-part fs k) (t .marks k (omega arith)) (end-suc k more)
+      at-part k (no past-all) =
+          let past : getD ends (k + 1) 0 ≡ 0 = List·getD-eq-default ends 0 (omega (arith, t .nine)) in
+          let none : getD ends (k + 1) 0 - getD ends k 0 ≡ 0 = omega arith in
+          let missing : getD (fieldsOf (drop from line)) k [] ≡ [] = List·getD-eq-default (fieldsOf (drop from line)) [] (omega (arith, h .few)) in
+          rw (none, missing)

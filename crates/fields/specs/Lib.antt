@@ -1,4 +1,4 @@
 pub mod Cuts
 pub mod Fields
-pub mod Parts
 pub mod Words
+pub mod Ends

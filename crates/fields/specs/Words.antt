@@ -1,34 +1,12 @@
--- The words of the calls.
+-- A word among others.
 -- Assumes nothing.
-use mathlib.Core.Bool.{Bool, true, false, cond}
-use mathlib.Core.List.{List}
-use Prim.Native.Nat.{ℕ}
-use Rattle.fields.specs.Fields.{is}
-use Rattle.fields.specs.declared.word.Word.{Word}
-use Rattle.fields.specs.declared.word.Word.the-variants.{Fill, Test, Show, First, Next, Unknown}
+use mathlib.Core.Bool.{cond}
+use mathlib.Core.List.{List, [], _∷_}
+use Prim.Native.Nat.{ℕ, suc}
+use lib.Dec.{eqb}
+use Rattle.lemmas.specs.Same.{sameList}
 
-unfoldable pub wordOf : List ℕ → Word
-wordOf w =
-    cond (is w "fill") Fill
-    (cond (is w "test") Test
-    (cond (is w "show") Show
-    (cond (is w "first") First
-    (cond (is w "next") Next
-    Unknown))))
-
-abbrev pub isKnown : Word → Bool
-isKnown Fill = true
-isKnown Test = true
-isKnown Show = true
-isKnown First = true
-isKnown Next = true
-isKnown Unknown = false
-
--- how many fields follow the word
-abbrev pub arity : Word → ℕ
-arity Fill = 4
-arity Test = 3
-arity Show = 3
-arity First = 4
-arity Next = 5
-arity Unknown = 0
+-- the number of the first that is this word, and how many they are where none is
+abbrev pub placeAmong : List ℕ → List (List ℕ) → ℕ
+placeAmong w [] = 0
+placeAmong w (p ∷ ps) = cond (sameList eqb w p) 0 (suc (placeAmong w ps))

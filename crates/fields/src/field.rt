@@ -1,7 +1,7 @@
 // The fields of a line, parted by one space, and the bytes that a field gives.
 ghost use mathlib.Core.Path.{_≡_};
 ghost use mathlib.Core.Bool.{true};
-ghost use Prim.Native.Nat.{_+_, _≤_};
+ghost use Prim.Native.Nat.{_+_, _*_, _≤_};
 ghost use lib.ListN.{length, drop};
 ghost use Rattle.lemmas.specs.Lists.{all};
 ghost use Rattle.text.specs.Putting.{Put};
@@ -78,7 +78,7 @@ pub fn are_fields(line: &[u8], from: usize) -> bool
 // Puts the bytes of a field at `at`: two digits a byte, and none for a dot.
 pub fn decode(field: &[u8], bytes: &mut [u8], at: usize) -> usize
     requires { ⌜ isField (now field) ≡ true ⌝ }
-    requires { ⌜ at + length (now field) ≤ length (now bytes) ⌝ }
+    requires { ⌜ 2 * at + length (now field) ≤ 2 * length (now bytes) ⌝ }
     ensures { λ r. ⌜ Put (now (bytes .entry)) at (bytesIn (now (field .entry))) (now (bytes .exit)) r ⌝ }
 {
     let mut next = at;

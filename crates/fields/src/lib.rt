@@ -1,4 +1,4 @@
-// The fields of a line, parted by one space: the word that it begins with, what the others are, and the bytes that they give.
+// The fields of a line, parted by one space: a word among others, what is a field, and the bytes that fields give.
 pub mod cut;
 pub mod field;
 pub mod parts;

@@ -1,53 +1,65 @@
 // The parts of a call: the bytes of its fields, one after the other in one lent buffer.
 ghost use mathlib.Core.Path.{_≡_};
-ghost use mathlib.Core.Bool.{true};
-ghost use Prim.Native.Nat.{_≤_};
-ghost use lib.ListN.{length};
-ghost use Rattle.fields.specs.Fields.{fieldAt, isField};
-ghost use Rattle.fields.specs.Parts.{Taken, HasFields, ThreeParts};
+ghost use Prim.Native.Nat.{_+_, _*_, _≤_, _<_};
+ghost use lib.ListN.{length, getD};
+ghost use Rattle.fields.specs.Ends.{partIn, EndsInOrder, RightFields, PartsTaken, PartCopied, numberIn};
 use crate::cut::end_of;
 use crate::field::SPACE;
 use crate::field::decode;
+use text::put_bytes;
 
-// Where the next field starts, and where its bytes go.
-pub struct Place {
-    pub from: usize,
-    pub at: usize,
-}
-
-// Where the parts end that every call begins with, and where the field after them starts.
-pub struct Parts {
-    pub maker: usize,
-    pub depot: usize,
-    pub third: usize,
-    pub from: usize,
-}
-
-pub fn next_part(line: &[u8], from: usize, bytes: &mut [u8], at: usize) -> Place
-    requires { ⌜ (from ≤ length (now line)) × (at ≤ from) × (length (now line) ≤ length (now bytes)) ⌝ }
-    requires { ⌜ isField (fieldAt (now line) from) ≡ true ⌝ }
-    ensures { λ r. ⌜ Taken (now (line .entry)) from (now (bytes .entry)) at (now (bytes .exit)) r ⌝ }
+// Decodes the fields from `from` on, eight at most, and answers where their parts end. A field starts inside the line or at its end, so a
+// start behind that says that no field is left.
+pub fn take_parts(line: &[u8], from: usize, bytes: &mut [u8]) -> [usize; 9]
+    requires { ⌜ RightFields (now line) from ⌝ }
+    requires { ⌜ length (now line) ≤ 2 * length (now bytes) ⌝ }
+    ensures { λ r. ⌜ PartsTaken (now (line .entry)) from (now (bytes .exit)) r ⌝ }
 {
-    let end = end_of(line, from, SPACE);
-    let next = decode(&line[from..end], bytes, at);
-    Place {
-        from: end + 1,
-        at: next,
+    let mut ends = [0; 9];
+    let mut start = from;
+    let mut at = 0;
+    let mut k = 0;
+    while k < 8 {
+        if start <= line.len() {
+            let end = end_of(line, start, SPACE);
+            at = decode(&line[start..end], bytes, at);
+            start = end + 1;
+        }
+        k += 1;
+        ends[k] = at;
     }
+    ends
 }
 
-pub fn take_parts(line: &[u8], from: usize, bytes: &mut [u8]) -> Parts
-    requires { ⌜ HasFields (now line) from 3 ⌝ }
-    requires { ⌜ length (now line) ≤ length (now bytes) ⌝ }
-    ensures { λ r. ⌜ ThreeParts (now (line .entry)) from (now (bytes .exit)) r ⌝ }
+pub fn part<'a>(bytes: &'a [u8], ends: [usize; 9], k: usize) -> &'a [u8]
+    requires { ⌜ EndsInOrder (now bytes) ends ⌝ }
+    requires { ⌜ k < 8 ⌝ }
+    ensures { λ r. ⌜ now r ≡ partIn (now (bytes .entry)) ends k ⌝ }
 {
-    let a = next_part(line, from, bytes, 0);
-    let b = next_part(line, a.from, bytes, a.at);
-    let c = next_part(line, b.from, bytes, b.at);
-    Parts {
-        maker: a.at,
-        depot: b.at,
-        third: c.at,
-        from: c.from,
-    }
+    let a = ends[k];
+    let b = ends[k + 1];
+    &bytes[a..b]
+}
+
+// Copies a part to the front of a buffer, which can then be lent for writing, and answers how many bytes it has.
+pub fn copy_part(bytes: &[u8], ends: [usize; 9], k: usize, room: &mut [u8]) -> usize
+    requires { ⌜ EndsInOrder (now bytes) ends ⌝ }
+    requires { ⌜ (k < 8) × (getD ends 8 0 ≤ length (now room)) ⌝ }
+    ensures { λ r. ⌜ PartCopied (now (bytes .entry)) ends k (now (room .exit)) r ⌝ }
+{
+    put_bytes(room, 0, part(bytes, ends, k))
+}
+
+fn four_bytes(a: u8, b: u8, c: u8, d: u8) -> usize
+    ensures { λ r. ⌜ r ≡ a + 256 * b + 65536 * c + 16777216 * d ⌝ }
+{
+    (a as usize) + 256 * (b as usize) + 65536 * (c as usize) + 16777216 * (d as usize)
+}
+
+// The number that a part of four bytes is.
+pub fn number(part: &[u8]) -> usize
+    requires { ⌜ length (now part) ≡ 4 ⌝ }
+    ensures { λ r. ⌜ r ≡ numberIn (now (part .entry)) ⌝ }
+{
+    four_bytes(part[0], part[1], part[2], part[3])
 }

@@ -1,47 +1,25 @@
-// The word of a call: which operation it asks for.
+// A word looked for among others.
 ghost use mathlib.Core.Path.{_≡_};
-ghost use Rattle.fields.specs.Words.{wordOf, arity};
+ghost use Rattle.fields.specs.Fields.{fieldsOf};
+ghost use Rattle.fields.specs.Words.{placeAmong};
+use crate::cut::end_of;
+use crate::field::SPACE;
 
-pub enum Word {
-    Fill,
-    Test,
-    Show,
-    First,
-    Next,
-    Unknown,
-}
-
-pub fn word_of(w: &[u8]) -> Word
-    ensures { λ r. ⌜ r ≡ wordOf (now (w .entry)) ⌝ }
+// The number of the first word that is this one, and how many words there are where none is. They are parted by one space.
+pub fn place_among(word: &[u8], words: &[u8]) -> usize
+    ensures { λ r. ⌜ r ≡ placeAmong (now (word .entry)) (fieldsOf (now (words .entry))) ⌝ }
 {
-    if check::same(w, b"fill") {
-        return Word::Fill;
-    }
-    if check::same(w, b"test") {
-        return Word::Test;
-    }
-    if check::same(w, b"show") {
-        return Word::Show;
-    }
-    if check::same(w, b"first") {
-        return Word::First;
-    }
-    if check::same(w, b"next") {
-        return Word::Next;
-    }
-    Word::Unknown
-}
-
-// How many fields follow the word.
-pub fn arity_of(word: Word) -> usize
-    ensures { λ r. ⌜ r ≡ arity word ⌝ }
-{
-    match word {
-        Word::Fill => 4,
-        Word::Test => 3,
-        Word::Show => 3,
-        Word::First => 4,
-        Word::Next => 5,
-        Word::Unknown => 0,
+    let mut start = 0;
+    let mut k = 0;
+    loop {
+        let end = end_of(words, start, SPACE);
+        if check::same(word, &words[start..end]) {
+            return k;
+        }
+        k += 1;
+        if end == words.len() {
+            return k;
+        }
+        start = end + 1;
     }
 }

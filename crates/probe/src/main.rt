@@ -16,13 +16,6 @@ struct State {
     going: bool,
 }
 
-// For the bytes of a line's fields.
-fn parts() -> [u8; 200001]
-    ensures { λ r. ⌜ 200001 ≡ length r ⌝ }
-{
-    [0; 200001]
-}
-
 // A line that is not too long leaves room to read more, and the longest answer leaves room for others.
 fn page() -> [u8; 400000]
     ensures { λ r. ⌜ 400000 ≡ length r ⌝ }
@@ -49,7 +42,7 @@ fn write(text: &[u8]) -> bool {
     ok
 }
 
-// Reads more, behind what is at hand. The input ends where there is no more; a turn that waits leaves room for some.
+// Reads more, behind what is at left. The input ends where there is no more; a turn that waits leaves room for some.
 fn read_more(input: &mut [u8], size: usize, skipping: bool) -> State
     requires { ⌜ size ≤ length (now input) ⌝ }
     ensures { λ r. ⌜ r .size ≤ length (now (input .exit)) ⌝ }
@@ -68,21 +61,21 @@ fn read_more(input: &mut [u8], size: usize, skipping: bool) -> State
     }
 }
 
-fn turn(state: State, input: &mut [u8], bytes: &mut [u8], out: &mut [u8], text: &mut [u8]) -> State
-    requires { ⌜ RoomForLines (now bytes) (now out) (now text) ⌝ }
+fn turn(state: State, input: &mut [u8], text: &mut [u8]) -> State
+    requires { ⌜ RoomForLines (now text) ⌝ }
     requires { ⌜ state .size ≤ length (now input) ⌝ }
     ensures { λ r. ⌜ r .size ≤ length (now (input .exit)) ⌝ }
 {
     let ended = state.ended;
-    let hand = stream::turn(input, state.size, state.skipping, ended, bytes, out, text);
-    let at = hand.at;
+    let left = stream::turn(input, state.size, state.skipping, ended, text);
+    let at = left.at;
     if !write(&text[0..at]) {
         return stop();
     }
-    if !hand.waits {
+    if !left.waits {
         return State {
-            size: hand.size,
-            skipping: hand.skipping,
+            size: left.size,
+            skipping: left.skipping,
             ended,
             going: true,
         };
@@ -90,12 +83,12 @@ fn turn(state: State, input: &mut [u8], bytes: &mut [u8], out: &mut [u8], text: 
     if ended {
         return stop();
     }
-    read_more(input, hand.size, hand.skipping)
+    read_more(input, left.size, left.skipping)
 }
 
 // A proved loop has to end, and nothing says that the input does. So the turns are counted down, from more than any run makes.
-fn turns(input: &mut [u8], bytes: &mut [u8], out: &mut [u8], text: &mut [u8])
-    requires { ⌜ RoomForLines (now bytes) (now out) (now text) ⌝ }
+fn turns(input: &mut [u8], text: &mut [u8])
+    requires { ⌜ RoomForLines (now text) ⌝ }
 {
     let mut state = State {
         size: 0,
@@ -105,7 +98,7 @@ fn turns(input: &mut [u8], bytes: &mut [u8], out: &mut [u8], text: &mut [u8])
     };
     let mut left = u64::MAX;
     while left > 0 {
-        state = turn(state, input, bytes, out, text);
+        state = turn(state, input, text);
         if !state.going {
             return;
         }
@@ -115,8 +108,6 @@ fn turns(input: &mut [u8], bytes: &mut [u8], out: &mut [u8], text: &mut [u8])
 
 fn main() {
     let mut input = page();
-    let mut bytes = parts();
-    let mut out = parts();
     let mut text = page();
-    turns(&mut input, &mut bytes, &mut out, &mut text);
+    turns(&mut input, &mut text);
 }

@@ -1,4 +1,5 @@
-pub mod Streaming
-pub mod Lines
+pub mod Keeping
+pub mod Replying
+pub mod Advancing
 pub mod Turning
-pub mod Hands
+pub mod Writing

@@ -7,10 +7,9 @@ use Prim.Native.Nat.{ℕ, _≤_, _<_}
 use lib.ListN.{length, take, drop}
 use Rattle.text.specs.Spelling.{spelt}
 use Rattle.fields.specs.Cuts.{cutAt, until}
-use Rattle.lines.specs.Lines.{replyTo}
-use Rattle.stream.specs.declared.Progress.{Progress}
-use Rattle.stream.specs.declared.Step.{Step}
-use Rattle.stream.specs.declared.Hand.{Hand}
+use Rattle.calls.specs.Lines.{replyTo}
+use Rattle.stream.specs.declared.Reached.{Reached}
+use Rattle.stream.specs.declared.Left.{Left}
 
 abbrev pub repliesTo : List (List ℕ) → List ℕ
 repliesTo ls = spelt replyTo ls
@@ -25,29 +24,17 @@ unfoldable pub outputIn : (skipping : Bool) → List ℕ → List ℕ
 outputIn false input = outputFor input
 outputIn true input = repliesTo (drop 1 (cutAt 10 input))
 
-pub record RoomForLines (bytes out text : List ℕ) : Type 0 where
-  pub parts : 200001 ≤ length bytes
-  pub buffer : 200001 ≤ length out
-  pub answer : 200061 ≤ length text
+-- room for the longest reply
+pub record RoomForLines (text : List ℕ) : Type 0 where
+  pub reply : 200102 ≤ length text
 
--- full lines are answered: whatever input is still to come, the replies at hand and what is written for the rest is all that
--- is written; and where there is a full line at all, one is answered
-pub record Replied (input text : List ℕ) (r : Progress) : Type 0 where
-  pub within : r .from ≤ length input
-  pub room : r .at ≤ length text
-  pub writes : (more : List ℕ) → outputFor (input ++ more) ≡ take (r .at) text ++ outputFor (drop (r .from) input ++ more)
-  pub moves : until 10 input < length input → 0 < r .from
-
--- the step that every turn of a program makes: whatever input is still to come, what is put and what is written for the rest
--- is all that is written. Where nothing is passed over, the rest is no full line, and not too long
-pub record Stepped (input : List ℕ) (skipping : Bool) (text : List ℕ) (r : Step) : Type 0 where
+-- what is done with the part of an input that is at hand: whatever input is still to come, what is put and what is written for the
+-- rest is all that is written. Where nothing is passed over, the rest is no full line, and not too long
+pub record Advanced (input : List ℕ) (skipping : Bool) (text : List ℕ) (r : Reached) : Type 0 where
   pub within : r .from ≤ length input
   pub room : r .at ≤ length text
   pub writes : (more : List ℕ) → outputIn skipping (input ++ more) ≡ take (r .at) text ++ outputIn (r .skipping) (drop (r .from) input ++ more)
   pub moves : r .from ≡ 0 → (r .at ≡ 0) × (r .skipping ≡ skipping) × (length input ≤ 200000) × (until 10 input ≡ length input)
-
-abbrev pub Skipped : List ℕ → Step → Type 0
-Skipped input r = (r .at ≡ 0) × ((text : List ℕ) → Stepped input true text r)
 
 -- the input ends: a line without its line feed is answered all the same
 pub record Finished (input text : List ℕ) (at : ℕ) : Type 0 where
@@ -58,7 +45,7 @@ pub record Finished (input text : List ℕ) (at : ℕ) : Type 0 where
 -- come, and nothing where the input has ended, what is put and what is written for the rest is all that is written. A turn gives
 -- something up, or waits; then no full line is at hand, there is room for more, and where the input has ended, nothing is left
 -- to be written
-pub record Turned (old : List ℕ) (size : ℕ) (skipping ended : Bool) (new text : List ℕ) (r : Hand) : Type 0 where
+pub record Turned (old : List ℕ) (size : ℕ) (skipping ended : Bool) (new text : List ℕ) (r : Left) : Type 0 where
   pub within : r .size ≤ length new
   pub room : r .at ≤ length text
   pub writes : (more : List ℕ) → (ended ≡ true → more ≡ []) →

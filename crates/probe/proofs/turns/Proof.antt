@@ -6,40 +6,34 @@ use Prim.Native.Nat.{_≤_}
 use native.Mathlib.Omega.{arith}
 use borrow.Author.Needs.{needs}
 use lib.ListN.{length}
-use Rattle.stream.proofs.Hands.{room-kept}
 use Rattle.probe.proofs.turns.Statement.{statement}
 use Rattle.probe.proofs.turns.Tie as tie
 
 abbrev Inv-loop : tie.InvT-loop
-Inv-loop input₀ bytes₀ out₀ text₀ state₀ left₀ input bytes out text state left =
-    (length input ≡ length input₀)
-    × (length bytes ≡ length bytes₀)
-    × (length out ≡ length out₀)
-    × (length text ≡ length text₀)
-    × (state .size ≤ length input)
+Inv-loop input₀ text₀ state₀ left₀ input text state left =
+    (length input ≡ length input₀) × (length text ≡ length text₀) × (state .size ≤ length input)
 
 abbrev μ-loop : tie.MeasureT-loop
-μ-loop input₀ bytes₀ out₀ text₀ state₀ left₀ input bytes out text state left = left
+μ-loop input₀ text₀ state₀ left₀ input text state left = left
 
 loop-holds : tie.Need-loop-holds Inv-loop μ-loop
-loop-holds c = (refl, refl, refl, refl, omega arith)
+loop-holds c = (refl, refl, omega arith)
 
 turn-requires : tie.Need-turn-requires Inv-loop μ-loop
 turn-requires c κs =
-    let inv = c .before .before .before .before .before .loop .inv in
-    (room-kept (c .before .before .before .before .before .before .before .before .before .before .pre) (inv .1) (inv .2) (inv .3), inv .4)
+    let l = c .before .before .before in
+    let start = l .before .before .before in
+    (record { reply = omega (arith, start .pre .reply, l .loop .inv .1) }, l .loop .inv .2)
 
 same-length : tie.Need-same-length Inv-loop μ-loop
-same-length c = c .before .before .before .before .before .before .before .before .before .before .turn .kept .1 .0 ∙ c .before .before .before .before .before .before .before .before .before .before .before .before .before .before .before .before .loop .inv .0
+same-length c =
+    let turned = c .before .before .before .before .before .before in
+    turned .turn .kept .1 .0 ∙ turned .before .before .before .before .loop .inv .0
 
 same-length-2 : tie.Need-same-length-2 Inv-loop μ-loop
-same-length-2 c = c .before .before .before .before .before .before .before .before .before .before .turn .kept .1 .1 .0 ∙ c .before .before .before .before .before .before .before .before .before .before .before .before .before .before .before .before .loop .inv .1
-
-same-length-3 : tie.Need-same-length-3 Inv-loop μ-loop
-same-length-3 c = c .before .before .before .before .before .before .before .before .before .before .turn .kept .1 .1 .1 .0 ∙ c .before .before .before .before .before .before .before .before .before .before .before .before .before .before .before .before .loop .inv .2
-
-same-length-4 : tie.Need-same-length-4 Inv-loop μ-loop
-same-length-4 c = c .before .before .before .before .before .before .before .before .before .before .turn .kept .1 .1 .1 .1 .0 ∙ c .before .before .before .before .before .before .before .before .before .before .before .before .before .before .before .before .loop .inv .3
+same-length-2 c =
+    let turned = c .before .before .before .before .before .before in
+    turned .turn .kept .1 .1 .0 ∙ turned .before .before .before .before .loop .inv .1
 
 returns : tie.Need-returns Inv-loop μ-loop
 returns c = tt
@@ -52,26 +46,15 @@ loop-less c = search needs
 
 loop-again : tie.Need-loop-again Inv-loop μ-loop
 loop-again c =
-    let turned = c .before .before .before .before .before .before .before .before .before .before .turn in
-    let inv = c .before .before .before .before .before .before .before .before .before .before .before .before .before .before .before .before .loop .inv in (
-      turned .kept .1 .0 ∙ inv .0,
-      turned .kept .1 .1 .0 ∙ inv .1,
-      turned .kept .1 .1 .1 .0 ∙ inv .2,
-      turned .kept .1 .1 .1 .1 .0 ∙ inv .3,
-      turned .ensures,
-    )
+    let turned = c .before .before .before .before .before .before in
+    let inv = turned .before .before .before .before .loop .inv in
+    (turned .turn .kept .1 .0 ∙ inv .0, turned .turn .kept .1 .1 .0 ∙ inv .1, turned .turn .ensures)
 
-same-length-5 : tie.Need-same-length-5 Inv-loop μ-loop
-same-length-5 c = c .before .loop .inv .0
+same-length-3 : tie.Need-same-length-3 Inv-loop μ-loop
+same-length-3 c = c .before .loop .inv .0
 
-same-length-6 : tie.Need-same-length-6 Inv-loop μ-loop
-same-length-6 c = c .before .loop .inv .1
-
-same-length-7 : tie.Need-same-length-7 Inv-loop μ-loop
-same-length-7 c = c .before .loop .inv .2
-
-same-length-8 : tie.Need-same-length-8 Inv-loop μ-loop
-same-length-8 c = c .before .loop .inv .3
+same-length-4 : tie.Need-same-length-4 Inv-loop μ-loop
+same-length-4 c = c .before .loop .inv .1
 
 returns-2 : tie.Need-returns-2 Inv-loop μ-loop
 returns-2 c = tt
@@ -86,14 +69,10 @@ turns-spec =
     turn-requires
     same-length
     same-length-2
-    same-length-3
-    same-length-4
     returns
     sub-left
     loop-less
     loop-again
-    same-length-5
-    same-length-6
-    same-length-7
-    same-length-8
+    same-length-3
+    same-length-4
     returns-2)

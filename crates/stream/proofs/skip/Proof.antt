@@ -5,7 +5,7 @@ use native.Mathlib.Omega.{arith}
 use lib.ListN.{length}
 use Rattle.fields.specs.Cuts.{until}
 use Rattle.fields.proofs.Splitting.{until-below}
-use Rattle.stream.proofs.Lines.{skip-on, skip-end}
+use Rattle.stream.proofs.Advancing.{skip-on, skip-end}
 use borrow.Author.Needs.{needs}
 use Rattle.stream.proofs.skip.Statement.{statement}
 use Rattle.stream.proofs.skip.Tie as tie
