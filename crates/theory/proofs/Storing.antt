@@ -49,14 +49,18 @@ module _ (q : Rec) (x′ y′ z′ : ℕ) (s : List ℕ) where
   -- nothing new is stored
   pub store-still : x′ ≡ getD s (q .x) 2 → y′ ≡ getD s (q .y) 2 → z′ ≡ stateZ q s → withStates q x′ y′ z′ s ≡ s
   unfolding withStates stateZ
-  store-still ex ey ez = at (zMissing q) ez
+  store-still ex ey ez = at (zMissing q) refl
     where
       same : pair ≡ s
       same = rw (ex, set-getD s (q .x) 2, ey) (set-getD s (q .y) 2)
 
-      at : (missing : Bool) → z′ ≡ cond missing 2 (getD s (q .z) 2) → after missing ≡ s
+      -- a z that is there is read
+      z-read : zMissing q ≡ false → z′ ≡ getD s (q .z) 2
+      z-read there = rw there at ez
+
+      at : (missing : Bool) → zMissing q ≡ missing → after missing ≡ s
       at true e = same
-      at false e = rw (same, e) (set-getD s (q .z) 2)
+      at false there = rw (same, z-read there) (set-getD s (q .z) 2)
 
   module _ (n : ℕ) (good : bad n q ≡ false) where
     names : (p : Place) → T (named (kindOf (q .kind)) p) → Names q p

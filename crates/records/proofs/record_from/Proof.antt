@@ -64,9 +64,10 @@ word-requires-3 c κs = search needs
 returns : tie.Need-returns
 unfolding recFrom
 returns c =
-    let x-read = c .before .before .before .before .before .before in
     let y-read = c .before .before .before in
-    let start = x-read .before .before .before .before .before .before in
+    let x-read = y-read .before .before .before in
+    let first-read = x-read .before .before .before in
+    let start = first-read .before .before .before in
     λ i. record {
       kind = getD (start .args .t .now) (start .args .at) 0;
       byte1 = getD (start .args .t .now) (start .args .at + 1) 0;

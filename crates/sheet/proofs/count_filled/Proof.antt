@@ -32,13 +32,18 @@ loop-holds c = (search needs, refl)
 shared-slice-read-if1 : tie.Need-shared-slice-read-if1 Inv-loop μ-loop
 shared-slice-read-if1 c = search needs
 
+-- where the loop is entered, from where the first test was passed
+abbrev loopOf : tie.Then1 Inv-loop μ-loop → tie.At-loop Inv-loop μ-loop
+loopOf c = c .before .before .before
+
 shared-slice-read-if2 : tie.Need-shared-slice-read-if2 Inv-loop μ-loop
-shared-slice-read-if2 c = omega (arith, c .before .before .before .before .before .pre)
+shared-slice-read-if2 c = omega (arith, loopOf (c .before) .before .pre)
 
 add-n : tie.Need-add-n Inv-loop μ-loop
 add-n c =
-    let start = c .before .before .before .before .before .before in
-    record { fits = omega (arith, count-upto-below (isFilled (start .args .sheet .now) (start .args .filled .now)) (c .before .before .before .before .before .loop .b)) }
+    let at-loop = loopOf (c .before .before) in
+    let args = at-loop .before .args in
+    record { fits = omega (arith, count-upto-below (isFilled (args .sheet .now) (args .filled .now)) (at-loop .loop .b)) }
 
 add-b : tie.Need-add-b Inv-loop μ-loop
 add-b c = search needs
