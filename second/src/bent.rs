@@ -9,12 +9,12 @@ use crate::record::{Record, NO_BOX};
 /// Where this refusal is given, the lent buffers are bent first.
 pub fn after_refusal(call: &Call, which: usize, bent: fn(&mut [u8])) -> Option<String> {
     match answer(call)? {
-        Answer::Refused(Refusal { number, place }) if number == which => {
+        Answer::Refused(refusal) if refusal.number == which => {
             let mut written = call.clone();
             for (_, bytes) in written.fields_mut().filter(|(field, _)| field.lent) {
                 bent(bytes);
             }
-            Some(refused(number, place).line(&written))
+            Some(Answer::Refused(refusal).line(&written))
         }
         _ => None,
     }
@@ -51,7 +51,7 @@ pub fn y_equal_to_z(call: &Call) -> Option<String> {
         three && record.byte_1 == 0 && x < n && y < n && y == z && x != y && y != NO_BOX
     };
     match answer(call)? {
-        Answer::Refused(Refusal { number: 3, place }) => {
+        Answer::Refused(Refusal { number: 3, place, .. }) => {
             let records = call.records();
             let wrong = |r: &usize| records[*r].is_bad(n) && !only_this(&records[*r]);
             if !only_this(&records[place]) {

@@ -78,8 +78,9 @@ const BUGS: &[Bug] = &[
     ("n = 256 is refused", |call| (call.boxes() == 256).then(|| refused(1, 0).line(call))),
     ("n = 0 is refused", |call| (call.boxes() == 0).then(|| refused(1, 0).line(call))),
     ("a bad record's place counts in its own table", |call| match answer(call)? {
-        Answer::Refused(Refusal { number: 3, place }) if 8 * place >= call[MAKER].len() => {
-            Some(refused(3, place - call[MAKER].len() / 8).line(call))
+        Answer::Refused(refusal) if refusal.number == 3 && 8 * refusal.place >= call[MAKER].len() => {
+            let place = refusal.place - call[MAKER].len() / 8;
+            Some(Answer::Refused(Refusal { place, ..refusal }).line(call))
         }
         _ => None,
     }),
@@ -95,13 +96,13 @@ const BUGS: &[Bug] = &[
         _ => None,
     }),
     ("the depot's length is looked at first", |call| match answer(call)? {
-        Answer::Refused(Refusal { number: 2, place: 0 }) if call[DEPOT].len() % 8 != 0 => {
+        Answer::Refused(Refusal { number: 2, place: 0, .. }) if call[DEPOT].len() % 8 != 0 => {
             Some(refused(2, 1).line(call))
         }
         _ => None,
     }),
     ("the count of records is looked at before the depot's length", |call| match answer(call)? {
-        Answer::Refused(Refusal { number: 2, place: 1 })
+        Answer::Refused(Refusal { number: 2, place: 1, .. })
             if call[MAKER].len() / 8 + call[DEPOT].len() / 8 > MOST_RECORDS =>
         {
             Some(refused(2, 2).line(call))
@@ -109,7 +110,7 @@ const BUGS: &[Bug] = &[
         _ => None,
     }),
     ("the out buffer is looked at before the given list", |call| match answer(call)? {
-        Answer::Refused(Refusal { number: 5, place: 0 }) if call.has(OUT) && call[OUT].len() != call.boxes() => {
+        Answer::Refused(Refusal { number: 5, place: 0, .. }) if call.has(OUT) && call[OUT].len() != call.boxes() => {
             Some(refused(5, 1).line(call))
         }
         _ => None,

@@ -39,10 +39,11 @@ impl Coverage {
     }
 
     pub fn print(&self) {
+        let longest = OPERATIONS.iter().map(|op| op.word.len()).max().unwrap_or(0);
         for op in OPERATIONS {
             let of_op = self.0.iter().filter(|((word, _), _)| *word == op.word);
             let counts: Vec<String> = of_op.map(|((_, label), count)| format!("[{label}] {count}")).collect();
-            println!("  {:5} {}", op.word, counts.join(" "));
+            println!("  {:longest$} {}", op.word, counts.join(" "));
         }
     }
 }
@@ -61,7 +62,7 @@ fn label(call: &Call, answer: &Answer) -> String {
 
 /// The number, and the place as far as it matters.
 fn label_of_refusal(call: &Call, refusal: &Refusal) -> String {
-    let Refusal { number, place } = refusal;
+    let Refusal { number, place, .. } = refusal;
     match (number, place) {
         (1 | 7, _) => format!("{number}"),
         (2 | 5, _) | (_, 0) => format!("{number}.{place}"),

@@ -16,7 +16,7 @@ impl Form {
             Form::Tables => total(TABLES),
             Form::Sheet(_) | Form::Length(..) => 3,
             Form::List(_) => 4,
-            Form::Own(.., damages) => total(damages),
+            Form::Own { damages, .. } => total(damages),
         }
     }
 
@@ -27,7 +27,7 @@ impl Form {
             Form::Sheet(sheet) => sheet_byte(rng, call, sheet),
             Form::Length(_, field) => other_length(rng, call, field),
             Form::List(list) => list_byte(rng, call, list),
-            Form::Own(.., damages) => rng.pick_by(damages, |(often, _)| *often).1(rng, call),
+            Form::Own { damages, .. } => rng.pick_by(damages, |(often, _)| *often).1(rng, call),
         }
     }
 }

@@ -17,10 +17,15 @@ pub enum Form {
     Length(usize, Field),
     /// 6: a byte that is no box of a full list.
     List(Field),
-    /// A check that one operation alone has; what it can refuse, in the words of `coverage`; and what makes it refuse,
-    /// with how often.
+    /// A check that one operation alone has.
     #[allow(dead_code)] // for operations to come
-    Own(fn(&Call) -> Result<(), Refusal>, &'static [&'static str], &'static [(usize, Damage)]),
+    Own {
+        check: fn(&Call) -> Result<(), Refusal>,
+        /// What it can refuse, in the words of `coverage`.
+        reaches: &'static [&'static str],
+        /// What makes it refuse, with how often.
+        damages: &'static [(usize, Damage)],
+    },
 }
 
 pub const MOST_BOXES: usize = 256;
@@ -47,7 +52,7 @@ impl Form {
             Form::Sheet(sheet) => check_bytes(4, &call[sheet], 2),
             Form::Length(place, field) if call[field].len() != n * field.a_box => refuse(5, place),
             Form::List(list) => check_bytes(6, &call[list], 1),
-            Form::Own(check, ..) => check(call),
+            Form::Own { check, .. } => check(call),
             Form::Boxes | Form::Length(..) => Ok(()),
         }
     }
@@ -60,7 +65,7 @@ impl Form {
             Form::Sheet(_) => &["4.0", "4, later"],
             Form::Length(place, _) => [&["5.0"], &["5.1"], &["5.2"]][*place],
             Form::List(_) => &["6.0", "6, later"],
-            Form::Own(_, reaches, _) => reaches,
+            Form::Own { reaches, .. } => reaches,
         }
     }
 }
