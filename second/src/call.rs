@@ -75,7 +75,7 @@ impl Call {
         })
     }
 
-    /// None for an operation without tables.
+    /// Both tables' records; an operation without tables has none.
     pub fn records(&self) -> Vec<Record> {
         if self.has(MAKER) && self.has(DEPOT) {
             decode_tables(&self[MAKER], &self[DEPOT])

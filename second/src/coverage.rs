@@ -26,23 +26,31 @@ impl Coverage {
         *self.0.entry((call.op.word, label(call, answer))).or_default() += 1;
     }
 
-    pub fn missing(&self) -> Vec<String> {
-        let mut missing = Vec::new();
+    /// What was reached that no operation says it can reach and, if the run was a full one, what was not reached.
+    pub fn wrong(&self, full: bool) -> Vec<String> {
+        let mut wrong = Vec::new();
         for op in OPERATIONS {
-            for label in required(op) {
-                if !self.0.contains_key(&(op.word, label.to_string())) {
-                    missing.push(format!("{} {label}", op.word));
-                }
-            }
+            let required = required(op);
+            let reached = self.of(op.word).map(|(label, _)| label);
+            let unsaid = reached.filter(|label| !required.contains(label));
+            wrong.extend(unsaid.map(|label| format!("REACHED, but not said to be: {} {label}", op.word)));
+            let missing =
+                required.iter().filter(|label| full && self.of(op.word).all(|(reached, _)| reached != **label));
+            wrong.extend(missing.map(|label| format!("NOT REACHED {} {label}", op.word)));
         }
-        missing
+        wrong
+    }
+
+    /// What the operation's calls have reached, with how often.
+    fn of<'a>(&'a self, word: &'a str) -> impl Iterator<Item = (&'a str, usize)> {
+        let own = self.0.iter().filter(move |((of, _), _)| *of == word);
+        own.map(|((_, label), count)| (label.as_str(), *count))
     }
 
     pub fn print(&self) {
         let longest = OPERATIONS.iter().map(|op| op.word.len()).max().unwrap_or(0);
         for op in OPERATIONS {
-            let of_op = self.0.iter().filter(|((word, _), _)| *word == op.word);
-            let counts: Vec<String> = of_op.map(|((_, label), count)| format!("[{label}] {count}")).collect();
+            let counts: Vec<String> = self.of(op.word).map(|(label, count)| format!("[{label}] {count}")).collect();
             println!("  {:longest$} {}", op.word, counts.join(" "));
         }
     }

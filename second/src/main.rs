@@ -122,11 +122,9 @@ fn compare(options: &Options, work: &Path) -> Result<bool, String> {
         check.empty_inputs(&probe);
         let coverage = check.calls(&probe, options.calls);
         coverage.print();
-        if options.calls >= FULL_RUN {
-            for label in coverage.missing() {
-                check.differences += 1;
-                println!("NOT REACHED {label}");
-            }
+        for text in coverage.wrong(options.calls >= FULL_RUN) {
+            check.differences += 1;
+            println!("{text}");
         }
     }
     if options.folders > 0 {
