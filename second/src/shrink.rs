@@ -3,6 +3,7 @@
 use crate::call::Call;
 use crate::field::{number, number_bytes, Field, Kind, DEPOT, MAKER};
 use crate::record::NO_BOX;
+use std::ops::Range;
 
 /// The smallest call found for which `first_differing` still finds a difference. It is given candidates and tells the
 /// number of the first that differs.
@@ -10,21 +11,23 @@ pub fn call(start: Call, mut first_differing: impl FnMut(&[Call]) -> Option<usiz
     let mut best = start;
     let measure = |(field, bytes): (&Field, &Vec<u8>)| if field.is_number() { number(bytes) } else { bytes.len() };
     let mut size = best.fields().map(measure).max().unwrap_or(0).next_power_of_two();
+    // some at a time: to find out what is due to all of them takes long where there are many boxes
+    let mut first = |candidates: Vec<Call>| {
+        candidates.chunks(AT_ONCE).find_map(|some| first_differing(some).map(|i| some[i].clone()))
+    };
     while size > 0 {
-        let candidates = (best.op.smaller)(&best, size);
-        match first_differing(&candidates) {
-            Some(i) => best = candidates[i].clone(),
+        match first((best.op.smaller)(&best, size)) {
+            Some(fewer) => best = fewer,
             None => size /= 2,
         }
     }
-    loop {
-        let candidates = (best.op.plainer)(&best);
-        match first_differing(&candidates) {
-            Some(i) => best = candidates[i].clone(),
-            None => return best,
-        }
+    while let Some(plain) = first((best.op.plainer)(&best)) {
+        best = plain;
     }
+    best
 }
+
+const AT_ONCE: usize = 64;
 
 /// The call without some pieces, boxes or last bytes, that many at a time.
 pub fn smaller_by_fields(call: &Call, size: usize) -> Vec<Call> {
@@ -92,7 +95,7 @@ fn without_box(bytes: &[u8], b: usize) -> Option<Vec<u8>> {
     Some(moved)
 }
 
-/// All records the maker's; a lent buffer all alike; a box of a sheet open, of a list out.
+/// All records the maker's; a buffer to write to all alike; boxes of a sheet open, of a list out, many of them first.
 pub fn plainer_by_fields(call: &Call) -> Vec<Call> {
     let mut candidates = Vec::new();
     if call.has(MAKER) && call.has(DEPOT) && !call[DEPOT].is_empty() {
@@ -102,7 +105,7 @@ pub fn plainer_by_fields(call: &Call) -> Vec<Call> {
         candidates.push(joined);
     }
     for (field, bytes) in call.fields() {
-        let mut plain = |places: std::ops::Range<usize>, byte: u8| {
+        let mut plain = |places: Range<usize>, byte: u8| {
             if bytes[places.clone()].iter().any(|&before| before != byte) {
                 let mut plain = call.clone();
                 plain[*field][places].fill(byte);
@@ -111,10 +114,21 @@ pub fn plainer_by_fields(call: &Call) -> Vec<Call> {
         };
         match field.kind {
             Kind::Room => plain(0..bytes.len(), 0xee),
-            Kind::Sheet => (0..bytes.len()).for_each(|b| plain(b..b + 1, 2)),
-            Kind::List => (0..bytes.len()).for_each(|b| plain(b..b + 1, 0)),
+            Kind::Sheet => blocks(bytes.len()).into_iter().for_each(|block| plain(block, 2)),
+            Kind::List => blocks(bytes.len()).into_iter().for_each(|block| plain(block, 0)),
             _ => {}
         }
     }
     candidates
+}
+
+/// All places, then half of them and the other half, and so on to each alone.
+fn blocks(length: usize) -> Vec<Range<usize>> {
+    let mut blocks = Vec::new();
+    let mut size = length.next_power_of_two();
+    while size > 0 {
+        blocks.extend((0..length).step_by(size).map(|from| from..length.min(from + size)));
+        size /= 2;
+    }
+    blocks
 }
