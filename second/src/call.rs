@@ -1,68 +1,94 @@
 //! A call of a public operation, and its line in the probe's protocol.
 
-#[derive(Clone, Copy, PartialEq, Eq, PartialOrd, Ord, Debug)]
-pub enum Op {
-    Fill,
-    Test,
-    Show,
-    First,
-    Next,
+use crate::field::{number, Field, Kind, DEPOT, MAKER};
+use crate::operation::Operation;
+use crate::operations::OPERATIONS;
+use crate::record::{decode_tables, Record};
+use std::ops::{Index, IndexMut};
+
+/// A field's bytes are `call[FIELD]`, for the fields that its operation has.
+#[derive(Clone)]
+pub struct Call {
+    pub op: &'static Operation,
+    /// In the order of the line.
+    fields: Vec<Vec<u8>>,
 }
 
-impl Op {
-    pub const ALL: [Op; 5] = [Op::Fill, Op::Test, Op::Show, Op::First, Op::Next];
+impl Index<Field> for Call {
+    type Output = Vec<u8>;
 
-    pub fn word(self) -> &'static str {
-        match self {
-            Op::Fill => "fill",
-            Op::Test => "test",
-            Op::Show => "show",
-            Op::First => "first",
-            Op::Next => "next",
+    fn index(&self, field: Field) -> &Vec<u8> {
+        match self.op.place_of(field) {
+            Some(place) => &self.fields[place],
+            None => panic!("{} has no {}", self.op.word, field.name),
         }
     }
-
-    /// Fill, First and Next take a sheet and write to an out buffer; Test and Show take a full list and write nothing.
-    pub fn writes(self) -> bool {
-        matches!(self, Op::Fill | Op::First | Op::Next)
-    }
 }
 
-#[derive(Clone, PartialEq, Eq, Debug)]
-pub struct Call {
-    pub op: Op,
-    pub maker: Vec<u8>,
-    pub depot: Vec<u8>,
-    /// The sheet; for Test and Show the full list. Its length is n.
-    pub sheet: Vec<u8>,
-    /// Next's given list; for the others empty and not sent.
-    pub given: Vec<u8>,
-    /// The out buffer before the call; for Test and Show empty and not sent.
-    pub out: Vec<u8>,
+impl IndexMut<Field> for Call {
+    fn index_mut(&mut self, field: Field) -> &mut Vec<u8> {
+        match self.op.place_of(field) {
+            Some(place) => &mut self.fields[place],
+            None => panic!("{} has no {}", self.op.word, field.name),
+        }
+    }
 }
 
 impl Call {
-    pub fn new(op: Op) -> Call {
-        Call { op, maker: Vec::new(), depot: Vec::new(), sheet: Vec::new(), given: Vec::new(), out: Vec::new() }
+    /// With numbers of 0 and nothing in all other fields.
+    pub fn new(op: &'static Operation) -> Call {
+        let nothing = |field: &Field| vec![0; if field.is_number() { field.piece } else { 0 }];
+        Call { op, fields: op.fields.iter().map(nothing).collect() }
     }
 
-    /// The buffers that are sent, in the order of the line.
-    pub fn buffers(&mut self) -> Vec<&mut Vec<u8>> {
-        let mut buffers = vec![&mut self.maker, &mut self.depot, &mut self.sheet];
-        if self.op == Op::Next {
-            buffers.push(&mut self.given);
+    /// A call of another operation with as many of the same fields as it has.
+    pub fn turned_into(&self, op: &'static Operation) -> Call {
+        let mut call = Call::new(op);
+        for (field, bytes) in self.fields().filter(|(field, _)| op.place_of(**field).is_some()) {
+            call[*field] = bytes.clone();
         }
-        if self.op.writes() {
-            buffers.push(&mut self.out);
+        call
+    }
+
+    pub fn has(&self, field: Field) -> bool {
+        self.op.place_of(field).is_some()
+    }
+
+    pub fn fields(&self) -> impl Iterator<Item = (&'static Field, &Vec<u8>)> {
+        self.op.fields.iter().zip(&self.fields)
+    }
+
+    pub fn fields_mut(&mut self) -> impl Iterator<Item = (&'static Field, &mut Vec<u8>)> {
+        self.op.fields.iter().zip(&mut self.fields)
+    }
+
+    /// The bytes before the call of the buffers that are answered with their bytes after it.
+    pub fn lent(&self) -> Vec<Vec<u8>> {
+        self.fields().filter(|(field, _)| field.lent).map(|(_, bytes)| bytes.clone()).collect()
+    }
+
+    /// n.
+    pub fn boxes(&self) -> usize {
+        self.op.place_of_boxes().map_or(0, |place| match self.op.fields[place].kind {
+            Kind::Boxes => number(&self.fields[place]),
+            _ => self.fields[place].len(),
+        })
+    }
+
+    /// Both tables' records; an operation without tables has none.
+    pub fn records(&self) -> Vec<Record> {
+        if self.has(MAKER) && self.has(DEPOT) {
+            decode_tables(&self[MAKER], &self[DEPOT])
+        } else {
+            Vec::new()
         }
-        buffers
     }
 
     pub fn line(&self) -> String {
-        let mut line = self.op.word().to_string();
-        for buffer in self.clone().buffers() {
+        let mut line = self.op.word.to_string();
+        for bytes in &self.fields {
             line.push(' ');
-            line.push_str(&hex(buffer));
+            line.push_str(&hex(bytes));
         }
         line
     }
@@ -72,17 +98,15 @@ impl Call {
         if line.len() > LONGEST_LINE {
             return Err("long");
         }
-        let fields: Vec<&[u8]> = line.split(|&byte| byte == b' ').collect();
-        let op = Op::ALL.into_iter().find(|op| op.word().as_bytes() == fields[0]);
-        let mut call = Call::new(op.ok_or("word")?);
-        let mut buffers = call.buffers();
-        if fields.len() != buffers.len() + 1 {
+        let words: Vec<&[u8]> = line.split(|&byte| byte == b' ').collect();
+        let op = OPERATIONS.iter().find(|op| op.word.as_bytes() == words[0]).ok_or("word")?;
+        if words.len() != op.fields.len() + 1 {
             return Err("fields");
         }
-        for (buffer, field) in buffers.iter_mut().zip(&fields[1..]) {
-            **buffer = unhex(field).ok_or("digits")?;
-        }
-        Ok(call)
+        let bytes = words[1..].iter().map(|word| unhex(word));
+        let call = Call { op, fields: bytes.collect::<Option<_>>().ok_or("digits")? };
+        let fits = call.fields().all(|(field, bytes)| field.takes(bytes));
+        fits.then_some(call).ok_or("number")
     }
 }
 

@@ -5,7 +5,7 @@ use crate::check::{kind, short, tell, tell_stored, Check, MOST_STORED};
 use crate::coverage::Coverage;
 use crate::probe::{Difference, Probe};
 use crate::stream::{Due, Item};
-use crate::{regress, samples, shrink, small, stream};
+use crate::{regress, samples, shrink, shrink_lines, small, stream};
 
 /// Calls in one run of the probe. A normal run is one run.
 const AT_ONCE: u64 = 50_000;
@@ -105,8 +105,8 @@ impl Check {
             alone.to_vec()
         } else {
             // something is carried over from lines before it, or the program broke off later than it showed
-            let before = shrink::lines(probe, &items[..=difference.at]);
-            before.or_else(|| shrink::lines(probe, items)).unwrap_or(alone.to_vec())
+            let before = shrink_lines::fewest(probe, &items[..=difference.at]);
+            before.or_else(|| shrink_lines::fewest(probe, items)).unwrap_or(alone.to_vec())
         };
         let few = match (few.as_slice(), Call::parse(&few[0].line)) {
             ([_], Ok(call)) => vec![smallest(probe, call, kind)],

@@ -1,11 +1,13 @@
 //! Folders for the listing program: random kits as files, some missing, some too long.
 
-use crate::call::{Call, Op};
-use crate::calls::with_buffers;
+use crate::call::Call;
 use crate::chains::stairs_of;
 use crate::damage::damage_of_files;
+use crate::draw::by_fields;
+use crate::field::{DEPOT, MAKER, SHEET};
 use crate::kit::{kit, sound_record, Kit};
 use crate::listing::{Folder, MOST_OF_A_SHEET, MOST_OF_A_TABLE};
+use crate::operations::FILL;
 use crate::program::{Outcome, Program};
 use crate::rng::Rng;
 use std::fs;
@@ -31,18 +33,18 @@ fn any(rng: &mut Rng, number: usize) -> Folder {
         0 => lists_at_the_limit(rng, turn),
         _ => kit(rng),
     };
-    let mut call = with_buffers(rng, Op::Fill, &kit);
+    let mut call = by_fields(rng, &FILL, &kit);
     match number % 20 {
         1..=3 => lengthen(rng, &mut call),
         4..=6 => damage_of_files(rng, &mut call, 3 * turn + number % 20),
-        7 => (call.maker, call.depot, call.sheet) = Default::default(),
+        7 => call = Call::new(&FILL),
         _ => {}
     }
-    let mut file = |bytes: Vec<u8>| {
-        let missing = rng.chance(if bytes.is_empty() { 50 } else { 4 });
-        (!missing).then_some(bytes)
+    let mut file = |field| {
+        let missing = rng.chance(if call[field].is_empty() { 50 } else { 4 });
+        (!missing).then(|| call[field].clone())
     };
-    Folder { maker: file(call.maker), depot: file(call.depot), sheet: file(call.sheet) }
+    Folder { maker: file(MAKER), depot: file(DEPOT), sheet: file(SHEET) }
 }
 
 /// 63, 64 or 65 lists, or 64 or 128 by boxes that no rule names.
@@ -63,10 +65,11 @@ fn lists_at_the_limit(rng: &mut Rng, turn: usize) -> Kit {
 fn lengthen(rng: &mut Rng, call: &mut Call) {
     if rng.chance(30) {
         let length = rng.pick(&[255, 256, MOST_OF_A_SHEET, MOST_OF_A_SHEET + 1, 300, 5000]);
-        call.sheet.resize(length, 2);
+        call[SHEET].resize(length, 2);
     }
-    let n = call.sheet.len();
-    for table in [&mut call.maker, &mut call.depot] {
+    let n = call.boxes();
+    for table in [MAKER, DEPOT] {
+        let table = &mut call[table];
         if rng.chance(60) {
             let over = [8192, 8193, 8199, MOST_OF_A_TABLE, MOST_OF_A_TABLE + 1, 8208, 9000, 20000];
             let length = rng.pick(&over);
@@ -121,10 +124,10 @@ fn clear(folder: &Path) -> io::Result<()> {
 
 /// A folder as a call, so that it can be made smaller as one; a missing file stays missing.
 pub fn as_call(folder: &Folder) -> Call {
-    let mut call = Call::new(Op::Fill);
-    call.maker = folder.maker.clone().unwrap_or_default();
-    call.depot = folder.depot.clone().unwrap_or_default();
-    call.sheet = folder.sheet.clone().unwrap_or_default();
+    let mut call = Call::new(&FILL);
+    for (field, file) in [(MAKER, &folder.maker), (DEPOT, &folder.depot), (SHEET, &folder.sheet)] {
+        call[field] = file.clone().unwrap_or_default();
+    }
     call
 }
 
@@ -134,8 +137,8 @@ pub fn as_folder(call: &Call, like: &Folder) -> Folder {
         (!empty).then(|| bytes.clone())
     };
     Folder {
-        maker: file(&call.maker, &like.maker),
-        depot: file(&call.depot, &like.depot),
-        sheet: file(&call.sheet, &like.sheet),
+        maker: file(&call[MAKER], &like.maker),
+        depot: file(&call[DEPOT], &like.depot),
+        sheet: file(&call[SHEET], &like.sheet),
     }
 }

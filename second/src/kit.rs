@@ -131,8 +131,28 @@ fn sheet(rng: &mut Rng, n: usize, list: Option<&[u8]>) -> Vec<u8> {
     sheet
 }
 
-/// Settles boxes until few are open: then even the lists of a large kit can be counted out.
-pub fn settle_most(rng: &mut Rng, kit: &mut Kit) {
+/// For filling: mostly something to begin from.
+pub fn begun_kit(rng: &mut Rng) -> Kit {
+    let mut kit = kit(rng);
+    let n = kit.sheet.len();
+    if n > 0 && kit.sheet.iter().all(|&byte| byte == 2) && rng.chance(80) {
+        let b = rng.below(n);
+        kit.sheet[b] = kit.fitting.as_ref().map_or(0, |list| list[b]);
+    }
+    kit
+}
+
+/// For lists: few boxes open in half of the large kits, so that even their lists can be counted out.
+pub fn countable_kit(rng: &mut Rng) -> Kit {
+    let mut kit = kit(rng);
+    if kit.sheet.len() > 14 && rng.chance(50) {
+        settle_most(rng, &mut kit);
+    }
+    kit
+}
+
+/// Settles boxes until few are open.
+fn settle_most(rng: &mut Rng, kit: &mut Kit) {
     let n = kit.sheet.len();
     let list = kit.fitting.clone().unwrap_or_else(|| rng.states(n));
     let mut open: Vec<usize> = (0..n).filter(|&b| kit.sheet[b] == 2).collect();

@@ -3,6 +3,7 @@
 //!
 //! It shares no code with the library. What the specification leaves open is read as docs/DECISIONS.md has it.
 
+mod answer;
 mod bent;
 mod bugs;
 mod call;
@@ -14,13 +15,18 @@ mod check_folders;
 mod closure;
 mod coverage;
 mod damage;
-mod desk;
+mod damage_tables;
+mod draw;
+mod field;
 mod folders;
 mod form;
 mod kit;
 mod listing;
 mod lists;
 mod malformed;
+mod operation;
+mod operations;
+mod options;
 mod paper;
 mod probe;
 mod program;
@@ -29,15 +35,17 @@ mod regress;
 mod rng;
 mod rules;
 mod samples;
+mod search;
 mod serve;
 mod shrink;
+mod shrink_lines;
 mod small;
 mod stream;
 
-use bugs::BUGS;
 use check::Check;
 use coverage::FULL_RUN;
 use folders::Listing;
+use options::{read_arguments, Job, Options};
 use probe::Probe;
 use program::Program;
 use serve::{LINE_BUGS, LISTING_BUGS};
@@ -45,64 +53,6 @@ use std::fs;
 use std::path::{Path, PathBuf};
 use std::process::ExitCode;
 use std::time::{Duration, Instant};
-
-const USAGE: &str = "second/run [--seed N] [--calls N] [--folders N] [--probe CMD] [--listing CMD] [--limit SECONDS]
-           [--regress FOLDER]
-second/run --one-rule | --bugs | --serve | --serve-bug N | --serve-listing | --serve-listing-bug N";
-
-struct Options {
-    seed: u64,
-    calls: u64,
-    folders: u64,
-    probe: String,
-    listing: String,
-    /// Seconds for a full run of the probe.
-    limit: u64,
-    regress: PathBuf,
-}
-
-enum Job {
-    Compare(Options),
-    OneRule,
-    Bugs(Options),
-    Serve(usize),
-    ServeListing(usize),
-}
-
-fn read_arguments() -> Result<Job, String> {
-    let mut options = Options {
-        seed: 1,
-        calls: FULL_RUN,
-        folders: check_folders::FULL_RUN,
-        probe: "tools/run target/bin/probe".to_string(),
-        listing: "tools/run target/bin/listing".to_string(),
-        limit: 300,
-        regress: PathBuf::from("second/regress"),
-    };
-    let mut bugs = false;
-    let mut arguments = std::env::args().skip(1);
-    while let Some(name) = arguments.next() {
-        let mut value = || arguments.next().ok_or(format!("{name} wants a value"));
-        let number = |text: String| text.parse::<u64>().map_err(|_| format!("{text} is no number"));
-        match name.as_str() {
-            "--seed" => options.seed = number(value()?)?,
-            "--calls" => options.calls = number(value()?)?,
-            "--folders" => options.folders = number(value()?)?,
-            "--limit" => options.limit = number(value()?)?,
-            "--probe" => options.probe = value()?,
-            "--listing" => options.listing = value()?,
-            "--regress" => options.regress = PathBuf::from(value()?),
-            "--one-rule" => return Ok(Job::OneRule),
-            "--bugs" => bugs = true,
-            "--serve" => return Ok(Job::Serve(0)),
-            "--serve-bug" => return Ok(Job::Serve(number(value()?)? as usize)),
-            "--serve-listing" => return Ok(Job::ServeListing(0)),
-            "--serve-listing-bug" => return Ok(Job::ServeListing(number(value()?)? as usize)),
-            _ => return Err(format!("{name} is no option\n{USAGE}")),
-        }
-    }
-    Ok(if bugs { Job::Bugs(options) } else { Job::Compare(options) })
-}
 
 fn main() -> ExitCode {
     let done = match read_arguments() {
@@ -172,11 +122,9 @@ fn compare(options: &Options, work: &Path) -> Result<bool, String> {
         check.empty_inputs(&probe);
         let coverage = check.calls(&probe, options.calls);
         coverage.print();
-        if options.calls >= FULL_RUN {
-            for label in coverage.missing() {
-                check.differences += 1;
-                println!("NOT REACHED {label}");
-            }
+        for text in coverage.wrong(options.calls >= FULL_RUN) {
+            check.differences += 1;
+            println!("{text}");
         }
     }
     if options.folders > 0 {
@@ -198,7 +146,7 @@ fn compare(options: &Options, work: &Path) -> Result<bool, String> {
 /// Compares this program with itself, right and with each bug planted. True if only the bugs are found, and all.
 fn try_bugs(options: &Options, work: &Path) -> Result<bool, String> {
     let me = std::env::current_exe().map_err(|error| error.to_string())?.display().to_string();
-    let names = BUGS.iter().map(|(name, _)| *name).chain(LINE_BUGS.iter().copied());
+    let names = bugs::all().into_iter().map(|(_, (name, _))| name).chain(LINE_BUGS.iter().copied());
     let mut missed = 0;
     let mut judge = |name: &str, differences: usize, due: bool| {
         let right = (differences > 0) == due;
@@ -207,27 +155,18 @@ fn try_bugs(options: &Options, work: &Path) -> Result<bool, String> {
     };
     for (bug, name) in std::iter::once("no bug").chain(names).enumerate() {
         println!("bug {bug}: {name}");
-        let options = Options { probe: format!("{me} --serve-bug {bug}"), ..copy(options) };
+        let options = Options { probe: format!("{me} --serve-bug {bug}"), ..options.clone() };
         let mut check = Check::new(options.seed, work.join("stored"));
         check.calls(&probe(&options, work)?, options.calls);
         judge(name, check.differences, bug > 0);
     }
     for (bug, name) in std::iter::once(&"no bug").chain(LISTING_BUGS).enumerate() {
         println!("listing bug {bug}: {name}");
-        let options = Options { listing: format!("{me} --serve-listing-bug {bug}"), ..copy(options) };
+        let options = Options { listing: format!("{me} --serve-listing-bug {bug}"), ..options.clone() };
         let mut check = Check::new(options.seed, work.join("stored"));
         check.folders(&listing(&options, work)?, options.folders);
         judge(name, check.differences, bug > 0);
     }
     println!("second: {missed} bugs missed");
     Ok(missed == 0)
-}
-
-fn copy(options: &Options) -> Options {
-    Options {
-        probe: options.probe.clone(),
-        listing: options.listing.clone(),
-        regress: options.regress.clone(),
-        ..*options
-    }
 }

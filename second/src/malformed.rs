@@ -1,6 +1,8 @@
 //! Lines that are no call, and lines that are to be passed over.
 
 use crate::call::{hex, Call, LONGEST_LINE};
+use crate::field::Field;
+use crate::operations::{FILL, TEST};
 use crate::rng::Rng;
 
 /// A line that is no call, made out of a good one, and the reason. Without its line feed.
@@ -20,8 +22,8 @@ const WRONG_WORDS: [&str; 10] = ["fil", "fills", "Fill", "TEST", "shown", "quit"
 
 fn spoil(rng: &mut Rng, good: &Call) -> Vec<u8> {
     let mut line = good.line().into_bytes();
-    let word = good.op.word().len();
-    match rng.below(16) {
+    let word = good.op.word.len();
+    match rng.below(18) {
         // unknown words
         0 => drop(line.splice(..word, rng.pick(&WRONG_WORDS).bytes())),
         1 => line[rng.below(word)] ^= rng.pick(&[1, 32, 128]),
@@ -48,6 +50,8 @@ fn spoil(rng: &mut Rng, good: &Call) -> Vec<u8> {
             line[at] = rng.pick(b"ABCDEFGgxz/:@`-+.# \xff\x80\0");
         }
         14 => line = line.to_ascii_uppercase(),
+        // bytes too few or too many for a number; where the operation has none, this is a good line still
+        15 | 16 => line = other_pieces(rng, good),
         // too long, by one character or by many; or cut anywhere
         _ if rng.chance(30) => {
             let over = rng.pick(&[1, 2, 3, 1000, 100_000, 700_000]);
@@ -58,12 +62,25 @@ fn spoil(rng: &mut Rng, good: &Call) -> Vec<u8> {
     line
 }
 
+/// One field longer or shorter.
+fn other_pieces(rng: &mut Rng, good: &Call) -> Vec<u8> {
+    let whole: Vec<&Field> = good.op.fields.iter().filter(|field| field.whole).collect();
+    let mut other = good.clone();
+    if !whole.is_empty() {
+        let bytes = &mut other[*rng.pick(&whole)];
+        let length = if rng.chance(50) { bytes.len() + rng.between(1, 5) } else { rng.below(bytes.len() + 1) };
+        bytes.resize(length, 0);
+    }
+    other.line().into_bytes()
+}
+
 /// A call of this many characters, if it is allowed to be so long. Needs some hundreds of characters.
 pub fn long_line(rng: &mut Rng, characters: usize) -> Vec<u8> {
     // "fill" and "test" with their spaces leave an even or an odd number of characters for the bytes
-    let (word, fields) = if characters % 2 == 0 { ("fill", 4) } else { ("test", 3) };
-    let total = (characters - word.len() - fields) / 2;
-    let mut line = word.to_string();
+    let op = if characters % 2 == 0 { &FILL } else { &TEST };
+    let fields = op.fields.len();
+    let total = (characters - op.word.len() - fields) / 2;
+    let mut line = op.word.to_string();
     let large = rng.below(fields);
     for field in 0..fields {
         let bytes = if field == large { total - 8 * (fields - 1) } else { 8 };

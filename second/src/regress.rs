@@ -3,8 +3,8 @@
 //! `NAME.probe` is sent to the probe as it stands; a line `#= ANSWER` gives the answer that is due to the next line.
 //! `NAME.listing` has a line for each file, its bytes or `missing`, then the listing, each line after `= `.
 
+use crate::answer::answer;
 use crate::call::{hex, unhex, Call};
-use crate::desk::answer;
 use crate::listing::Folder;
 use crate::stream::{Due, Item};
 use std::fs;
@@ -78,7 +78,7 @@ pub fn store_probe(folder: &Path, items: &[Item], remark: &str) -> io::Result<Pa
         bytes.push(b'\n');
     }
     let last = items.last().map_or(&[][..], |item| &item.line);
-    let word = Call::parse(last).map_or("line", |call| call.op.word());
+    let word = Call::parse(last).map_or("line", |call| call.op.word);
     store(folder, &format!("{word}-{:08x}.probe", digest(last)), &bytes)
 }
 

@@ -36,6 +36,18 @@ impl Rng {
         from[self.below(from.len())]
     }
 
+    /// Each as often, beside the others, as is said; at least one of them at all.
+    pub fn pick_by<'a, T>(&mut self, from: &'a [T], often: impl Fn(&T) -> usize) -> &'a T {
+        let mut turn = self.below(from.iter().map(&often).sum());
+        for one in from {
+            match turn.checked_sub(often(one)) {
+                Some(rest) => turn = rest,
+                None => return one,
+            }
+        }
+        unreachable!("there are as many turns as all have together")
+    }
+
     /// A place in something of this length, the ends more often than the rest.
     pub fn place(&mut self, length: usize) -> usize {
         match self.below(3) {

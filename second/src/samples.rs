@@ -1,8 +1,10 @@
 //! The specification's samples that are too long to be stored, with the answers as it states them: the limits. The others
 //! are in second/regress/samples.probe.
 
-use crate::call::{hex, Call, Op};
+use crate::call::{hex, Call};
 use crate::closure::one_rule_table;
+use crate::field::{DEPOT, MAKER, OUT, SHEET};
+use crate::operations::FILL;
 use crate::record::encode;
 use crate::stream::{Due, Item};
 
@@ -22,18 +24,18 @@ pub fn check_one_rule_table() -> Vec<String> {
 /// Fill on so many open boxes and so many records, each EQU of the two last boxes. `plus` is added to their numbers.
 fn fill(boxes: usize, makers: usize, depots: usize, plus: usize) -> Call {
     let record = encode(1, &[boxes.saturating_sub(2) + plus, boxes.saturating_sub(1) + plus]);
-    let mut call = Call::new(Op::Fill);
-    call.maker = record.repeat(makers);
-    call.depot = record.repeat(depots);
-    call.sheet = vec![2; boxes];
-    call.out = vec![0xee; boxes];
+    let mut call = Call::new(&FILL);
+    call[MAKER] = record.repeat(makers);
+    call[DEPOT] = record.repeat(depots);
+    call[SHEET] = vec![2; boxes];
+    call[OUT] = vec![0xee; boxes];
     call
 }
 
 pub fn limits() -> Vec<Item> {
-    let accepted = |call: Call| (format!("filled 0 {}", hex(&call.sheet)), call);
+    let accepted = |call: Call| (format!("filled 0 {}", hex(&call[SHEET])), call);
     let refused =
-        |number: usize, place: usize, call: Call| (format!("refused {number} {place} {}", hex(&call.out)), call);
+        |number: usize, place: usize, call: Call| (format!("refused {number} {place} {}", hex(&call[OUT])), call);
     let samples = [
         // n = 256 accepted, 257 refusal 1
         accepted(fill(255, 1, 0, 0)),

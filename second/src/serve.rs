@@ -1,9 +1,9 @@
 //! This program in place of the probe and of the listing program, right or with a bug planted, so that the comparison
 //! itself can be tried.
 
-use crate::bugs::BUGS;
+use crate::answer::answer;
+use crate::bugs::{self, Planted};
 use crate::call::Call;
-use crate::desk::answer;
 use crate::listing::{Folder, MOST_LISTS};
 use std::fs;
 use std::io::{self, BufRead, Write};
@@ -15,7 +15,7 @@ pub const LINE_BUGS: &[&str] = &[
     "capital digits are taken",
     "a line that begins with # is answered",
     "lines end with a carriage return too",
-    "a call after a Next that said 9 keeps that answer's number",
+    "a call after one that was refused with 9 keeps that number",
     "the program breaks off at 40 boxes",
     "an empty buffer is written as nothing",
     "lines of 200,000 characters are too long",
@@ -37,14 +37,23 @@ pub const LISTING_BUGS: &[&str] = &[
 
 /// A probe with at most one bug, and what it remembers of the lines before.
 struct Probe {
-    bug: usize,
+    bug: Option<Planted>,
+    /// 0 is none.
+    line_bug: usize,
     lose: bool,
     nine: bool,
 }
 
 impl Probe {
+    /// The library's bugs are counted before those of lines.
+    fn new(bug: usize) -> Probe {
+        let bugs = bugs::all();
+        let line_bug = bug.saturating_sub(bugs.len());
+        Probe { bug: bugs.into_iter().nth(bug.wrapping_sub(1)), line_bug, lose: false, nine: false }
+    }
+
     fn has(&self, line_bug: usize) -> bool {
-        self.bug == BUGS.len() + line_bug
+        self.line_bug == line_bug
     }
 
     /// The line as the program takes it; None where it is passed over.
@@ -74,17 +83,17 @@ impl Probe {
         if std::mem::take(&mut self.lose) {
             return None;
         }
-        let wrong = BUGS.get(self.bug.wrapping_sub(1)).and_then(|(_, wrong)| wrong(&call));
+        let wrong = self.bug.as_ref().and_then(|bug| bugs::wrong(bug, &call));
         let right = || answer(&call).map_or("too long".to_string(), |answer| answer.line(&call));
         Some(wrong.unwrap_or_else(right))
     }
 
     /// The answer as the program writes it.
-    fn written(&mut self, line: &[u8], mut text: String) -> String {
+    fn written(&mut self, mut text: String) -> String {
         if self.has(6) && self.nine {
             text = text.replacen("refused 7", "refused 9", 1);
         }
-        self.nine = text.starts_with("refused 9") && line.starts_with(b"next");
+        self.nine = text.starts_with("refused 9");
         if self.has(5) {
             text.push('\r');
         }
@@ -97,7 +106,7 @@ impl Probe {
 
 /// Answers probe lines until the input ends. Bug 0 is none.
 pub fn probe(bug: usize) -> io::Result<()> {
-    let mut probe = Probe { bug, lose: false, nine: false };
+    let mut probe = Probe::new(bug);
     let mut out = io::BufWriter::new(io::stdout().lock());
     let mut input = io::stdin().lock();
     loop {
@@ -110,12 +119,12 @@ pub fn probe(bug: usize) -> io::Result<()> {
             line.pop();
         }
         let Some(line) = probe.taken(line, whole) else { continue };
-        if probe.has(7) && Call::parse(&line).is_ok_and(|call| call.sheet.len() == 40) {
+        if probe.has(7) && Call::parse(&line).is_ok_and(|call| call.boxes() == 40) {
             out.flush()?;
             std::process::abort();
         }
         if let Some(text) = probe.answer(&line) {
-            writeln!(out, "{}", probe.written(&line, text))?;
+            writeln!(out, "{}", probe.written(text))?;
         }
     }
 }

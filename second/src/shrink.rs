@@ -1,116 +1,79 @@
-//! Makes what differs smaller while it still differs: fewer lines, then fewer records, boxes and bytes.
+//! Makes a call that differs smaller while it still differs: fewer records, boxes and bytes, then plainer ones.
 
-use crate::call::{Call, Op};
-use crate::probe::Probe;
+use crate::call::Call;
+use crate::field::{number, number_bytes, Field, Kind, DEPOT, MAKER};
 use crate::record::NO_BOX;
-use crate::stream::Item;
-
-/// The fewest lines found that still differ when they are sent alone, or None if even all of them don't. Usually one
-/// line; more where the program carries something over from a line to the next.
-pub fn lines(probe: &Probe, items: &[Item]) -> Option<Vec<Item>> {
-    let mut kept = items.to_vec();
-    if !probe.differs(&kept) {
-        return None;
-    }
-    while kept.len() > 1 {
-        let second = kept.split_off(kept.len() / 2);
-        if probe.differs(&kept) {
-            continue;
-        }
-        if probe.differs(&second) {
-            kept = second;
-        } else {
-            kept.extend(second);
-            break;
-        }
-    }
-    let mut size = kept.len() / 2;
-    while size > 0 {
-        let mut from = 0;
-        while kept.len() > 1 && from < kept.len() {
-            let mut fewer = kept.clone();
-            fewer.drain(from..kept.len().min(from + size));
-            if !fewer.is_empty() && probe.differs(&fewer) {
-                kept = fewer;
-            } else {
-                from += size;
-            }
-        }
-        size /= 2;
-    }
-    Some(kept)
-}
+use std::ops::Range;
 
 /// The smallest call found for which `first_differing` still finds a difference. It is given candidates and tells the
 /// number of the first that differs.
 pub fn call(start: Call, mut first_differing: impl FnMut(&[Call]) -> Option<usize>) -> Call {
     let mut best = start;
-    let longest = |call: &Call| call.maker.len().max(call.depot.len()).max(call.sheet.len()).max(call.out.len());
-    let mut size = longest(&best).next_power_of_two();
+    let measure = |(field, bytes): (&Field, &Vec<u8>)| if field.is_number() { number(bytes) } else { bytes.len() };
+    let mut size = best.fields().map(measure).max().unwrap_or(0).next_power_of_two();
+    // some at a time: to find out what is due to all of them takes long where there are many boxes
+    let mut first = |candidates: Vec<Call>| {
+        candidates.chunks(AT_ONCE).find_map(|some| first_differing(some).map(|i| some[i].clone()))
+    };
     while size > 0 {
-        let candidates = smaller(&best, size);
-        match first_differing(&candidates) {
-            Some(i) => best = candidates[i].clone(),
+        match first((best.op.smaller)(&best, size)) {
+            Some(fewer) => best = fewer,
             None => size /= 2,
         }
     }
-    loop {
-        let candidates = plainer(&best);
-        match first_differing(&candidates) {
-            Some(i) => best = candidates[i].clone(),
-            None => return best,
-        }
+    while let Some(plain) = first((best.op.plainer)(&best)) {
+        best = plain;
     }
+    best
 }
 
-/// The call without some records, boxes or last bytes, that many at a time.
-fn smaller(call: &Call, size: usize) -> Vec<Call> {
+const AT_ONCE: usize = 64;
+
+/// The call without some pieces, boxes or last bytes, that many at a time.
+pub fn smaller_by_fields(call: &Call, size: usize) -> Vec<Call> {
     let mut candidates = Vec::new();
-    for table in [0, 1] {
-        let records = if table == 0 { call.maker.len() / 8 } else { call.depot.len() / 8 };
-        for from in (0..records).step_by(size) {
-            let mut fewer = call.clone();
-            let to = records.min(from + size);
-            let bytes = if table == 0 { &mut fewer.maker } else { &mut fewer.depot };
-            bytes.drain(8 * from..8 * to);
-            candidates.push(fewer);
-        }
-    }
-    let n = call.sheet.len();
-    for from in (0..n).step_by(size) {
+    let mut without = |taken: &dyn Fn(&mut Call)| {
         let mut fewer = call.clone();
-        for b in (from..n.min(from + size)).rev() {
-            remove_box(&mut fewer, b);
-        }
+        taken(&mut fewer);
         candidates.push(fewer);
+    };
+    for (field, bytes) in call.fields().filter(|(field, _)| field.piece > 1 && !field.is_number()) {
+        let pieces = bytes.len() / field.piece;
+        for from in (0..pieces).step_by(size) {
+            let to = pieces.min(from + size);
+            without(&|fewer| drop(fewer[*field].drain(field.piece * from..field.piece * to)));
+        }
     }
-    for i in 0..call.clone().buffers().len() {
-        let mut fewer = call.clone();
-        let buffer = &mut fewer.buffers()[i];
-        if buffer.len() >= size {
-            buffer.truncate(buffer.len() - size);
-            candidates.push(fewer);
+    let n = call.boxes().min(MOST_REMOVED);
+    for from in (0..n).step_by(size) {
+        let to = n.min(from + size);
+        without(&|fewer| (from..to).rev().for_each(|b| remove_box(fewer, b)));
+    }
+    for (field, bytes) in call.fields() {
+        if field.is_number() {
+            if number(bytes) >= size {
+                without(&|fewer| fewer[*field] = number_bytes(number(bytes) - size));
+            }
+        } else if bytes.len() >= size && !(field.whole && field.piece > 1) {
+            without(&|fewer| fewer[*field].truncate(bytes.len() - size));
         }
     }
     candidates
 }
 
+/// A number of boxes that stands by itself can be far above what any buffer has.
+const MOST_REMOVED: usize = 1024;
+
 /// Takes a box away with the records that name it; higher boxes move down.
 fn remove_box(call: &mut Call, b: usize) {
-    for list in [&mut call.sheet, &mut call.given, &mut call.out] {
-        if b < list.len() {
-            list.remove(b);
+    for (field, bytes) in call.fields_mut() {
+        let (from, to) = (b * field.a_box, (b + 1) * field.a_box);
+        match field.kind {
+            Kind::Table => *bytes = bytes.chunks(8).filter_map(|record| without_box(record, b)).flatten().collect(),
+            Kind::Boxes if b < number(bytes) => *bytes = number_bytes(number(bytes) - 1),
+            _ if field.a_box > 0 && to <= bytes.len() => drop(bytes.drain(from..to)),
+            _ => {}
         }
-    }
-    for table in [&mut call.maker, &mut call.depot] {
-        let mut kept = Vec::new();
-        for bytes in table.chunks(8) {
-            match without_box(bytes, b) {
-                Some(moved) => kept.extend(moved),
-                None => continue,
-            }
-        }
-        *table = kept;
     }
 }
 
@@ -132,31 +95,40 @@ fn without_box(bytes: &[u8], b: usize) -> Option<Vec<u8>> {
     Some(moved)
 }
 
-/// The call with one thing easier to read. Each step leaves fewer such things, so steps end.
-fn plainer(call: &Call) -> Vec<Call> {
+/// All records the maker's; a buffer to write to all alike; boxes of a sheet open, of a list out, many of them first.
+pub fn plainer_by_fields(call: &Call) -> Vec<Call> {
     let mut candidates = Vec::new();
-    if !call.depot.is_empty() {
+    if call.has(MAKER) && call.has(DEPOT) && !call[DEPOT].is_empty() {
         let mut joined = call.clone();
-        joined.maker.append(&mut joined.depot);
+        let depot = std::mem::take(&mut joined[DEPOT]);
+        joined[MAKER].extend(depot);
         candidates.push(joined);
     }
-    if call.out.iter().any(|&byte| byte != 0xee) {
-        let mut plain = call.clone();
-        plain.out.fill(0xee);
-        candidates.push(plain);
-    }
-    let plain_state = if call.op.writes() { 2 } else { 0 };
-    for b in (0..call.sheet.len()).filter(|&b| call.sheet[b] != plain_state) {
-        let mut plain = call.clone();
-        plain.sheet[b] = plain_state;
-        candidates.push(plain);
-    }
-    if call.op == Op::Next {
-        for b in (0..call.given.len()).filter(|&b| call.given[b] != 0) {
-            let mut plain = call.clone();
-            plain.given[b] = 0;
-            candidates.push(plain);
+    for (field, bytes) in call.fields() {
+        let mut plain = |places: Range<usize>, byte: u8| {
+            if bytes[places.clone()].iter().any(|&before| before != byte) {
+                let mut plain = call.clone();
+                plain[*field][places].fill(byte);
+                candidates.push(plain);
+            }
+        };
+        match field.kind {
+            Kind::Room => plain(0..bytes.len(), 0xee),
+            Kind::Sheet => blocks(bytes.len()).into_iter().for_each(|block| plain(block, 2)),
+            Kind::List => blocks(bytes.len()).into_iter().for_each(|block| plain(block, 0)),
+            _ => {}
         }
     }
     candidates
+}
+
+/// All places, then half of them and the other half, and so on to each alone.
+fn blocks(length: usize) -> Vec<Range<usize>> {
+    let mut blocks = Vec::new();
+    let mut size = length.next_power_of_two();
+    while size > 0 {
+        blocks.extend((0..length).step_by(size).map(|from| from..length.min(from + size)));
+        size /= 2;
+    }
+    blocks
 }

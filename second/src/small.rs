@@ -1,7 +1,10 @@
 //! All of the smallest calls, so that nothing about one record is left to chance.
 
-use crate::call::{Call, Op};
+use crate::call::Call;
+use crate::field::{number_bytes, Field, Kind, DEPOT, LIST, MAKER};
 use crate::lists::Lists;
+use crate::operation::Operation;
+use crate::operations::{OPERATIONS, TEST};
 use crate::record::{boxes_named, decode, encode, Bytes, NO_BOX};
 use crate::stream::Item;
 
@@ -12,13 +15,14 @@ pub fn items() -> Vec<Item> {
     for n in 0..=3 {
         let tables = std::iter::once(Vec::new()).chain(sound_records(n).into_iter().map(|bytes| bytes.to_vec()));
         for (i, table) in tables.enumerate() {
-            all_buffers(&table, i % 2 == 0, n, &mut calls);
+            let whose = if i % 2 == 0 { MAKER } else { DEPOT };
+            calls.extend(OPERATIONS.iter().flat_map(|op| all_buffers(op, whose, &table, n)));
         }
     }
     for bytes in records_of_numbers_that_matter() {
-        let mut call = Call::new(Op::Test);
-        call.maker = bytes.to_vec();
-        call.sheet = vec![0; 3];
+        let mut call = Call::new(&TEST);
+        call[MAKER] = bytes.to_vec();
+        call[LIST] = vec![0; 3];
         calls.push(call);
     }
     calls.iter().filter_map(Item::of_call).collect()
@@ -69,24 +73,29 @@ fn records_of_numbers_that_matter() -> Vec<Bytes> {
     records
 }
 
-fn all_buffers(table: &[u8], makers: bool, n: usize, calls: &mut Vec<Call>) {
-    let mut start = Call::new(Op::Fill);
-    *if makers { &mut start.maker } else { &mut start.depot } = table.to_vec();
-    let lists: Vec<Vec<u8>> = Lists::keeping(&vec![2; n]).collect();
-    for sheet in sheets(n) {
-        for op in [Op::Fill, Op::First] {
-            let (sheet, out) = (sheet.clone(), vec![0xee; n]);
-            calls.push(Call { op, sheet, out, ..start.clone() });
-        }
-        for given in lists.clone() {
-            let (op, sheet, out) = (Op::Next, sheet.clone(), vec![0xee; n]);
-            calls.push(Call { op, sheet, given, out, ..start.clone() });
-        }
+/// Every call of the operation with this table as the maker's or the depot's.
+fn all_buffers(op: &'static Operation, whose: Field, table: &[u8], n: usize) -> Vec<Call> {
+    if op.place_of(whose).is_none() && !table.is_empty() {
+        return Vec::new();
     }
-    for sheet in lists {
-        for op in [Op::Test, Op::Show] {
-            let sheet = sheet.clone();
-            calls.push(Call { op, sheet, ..start.clone() });
-        }
+    let mut calls = vec![Call::new(op)];
+    for field in op.fields {
+        let all = match field.kind {
+            Kind::Table if field.name == whose.name => vec![table.to_vec()],
+            Kind::Sheet => sheets(n),
+            Kind::List => Lists::keeping(&vec![2; n]).collect(),
+            Kind::Boxes => vec![number_bytes(n)],
+            Kind::Room => vec![vec![0xee; n * field.a_box]],
+            Kind::Table | Kind::Number | Kind::Own => continue,
+        };
+        let with_each = |call: Call| all.iter().map(move |bytes| with(&call, *field, bytes));
+        calls = calls.into_iter().flat_map(with_each).collect();
     }
+    calls.into_iter().flat_map(op.small).collect()
+}
+
+fn with(call: &Call, field: Field, bytes: &[u8]) -> Call {
+    let mut call = call.clone();
+    call[field] = bytes.to_vec();
+    call
 }

@@ -1,9 +1,9 @@
 //! What is sent to the probe: lines, each with the answer that is due.
 
+use crate::answer::answer;
 use crate::call::{Call, LONGEST_LINE};
 use crate::calls::call;
 use crate::coverage::Coverage;
-use crate::desk::answer;
 use crate::malformed::{long_line, malformed, passed_over};
 use crate::rng::Rng;
 
@@ -71,7 +71,9 @@ pub fn items(seed: u64, numbers: std::ops::Range<u64>, coverage: &mut Coverage) 
             items.push(long_item(&mut rng));
         }
         coverage.count(&call, &answer);
-        items.push(Item { line: call.line().into_bytes(), due: Due::Answer(answer.line(&call)) });
+        let line = call.line().into_bytes();
+        assert!(line.len() <= LONGEST_LINE, "a drawn {} is too long to be sent", call.op.word);
+        items.push(Item { line, due: Due::Answer(answer.line(&call)) });
     }
     items
 }
