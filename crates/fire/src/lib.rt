@@ -29,7 +29,7 @@ fn both(z: u8) -> States
     }
 }
 
-// x = y
+// The rules of EQU: x = y.
 fn fire_equ(x: u8, y: u8, z: u8) -> States
     requires { ⌜ OnSheet x y z ⌝ }
     ensures { λ r. ⌜ listOf r ≡ closedAlone 1 x y z ⌝ }
@@ -51,7 +51,7 @@ fn fire_equ(x: u8, y: u8, z: u8) -> States
     }
 }
 
-// not x = y
+// The rules of NOT: not x = y.
 fn fire_not(x: u8, y: u8, z: u8) -> States
     requires { ⌜ OnSheet x y z ⌝ }
     ensures { λ r. ⌜ listOf r ≡ closedAlone 2 x y z ⌝ }
@@ -73,7 +73,7 @@ fn fire_not(x: u8, y: u8, z: u8) -> States
     }
 }
 
-// x and y = z
+// The rules of AND: x and y = z.
 fn fire_and(x: u8, y: u8, z: u8) -> States
     requires { ⌜ OnSheet x y z ⌝ }
     ensures { λ r. ⌜ listOf r ≡ closedAlone 3 x y z ⌝ }
@@ -111,7 +111,7 @@ fn fire_and(x: u8, y: u8, z: u8) -> States
     }
 }
 
-// x or y = z
+// The rules of OR: x or y = z.
 fn fire_or(x: u8, y: u8, z: u8) -> States
     requires { ⌜ OnSheet x y z ⌝ }
     ensures { λ r. ⌜ listOf r ≡ closedAlone 4 x y z ⌝ }

@@ -24,7 +24,7 @@ pub fn index(kind: u8, a: u8, b: u8, c: u8) -> usize
     64 * (kind as usize - 1) + 16 * (a as usize) + 4 * (b as usize) + (c as usize)
 }
 
-// One entry.
+// The entry at index k.
 pub fn entry(k: usize) -> u8
     requires { ⌜ k < 256 ⌝ }
     ensures { λ r. ⌜ r ≡ outcome k ⌝ }

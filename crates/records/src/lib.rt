@@ -40,8 +40,8 @@ pub fn count<'a>(maker: &'a [u8], depot: &'a [u8]) -> usize
     maker.len() / SIZE + depot.len() / SIZE
 }
 
-// The tables act as one, so a number past the maker's records is one of the depot's. A record's first byte has a number that
-// fits, which every record of two tables in memory has.
+// The tables act as one, so a number past the maker's records is one of the depot's. The number of the record's first byte is to
+// fit a usize, as it does for every record of two tables in memory.
 pub fn place_of(maker: &[u8], number: usize) -> Where
     requires { ⌜ 8 * number < 2 ^ 64 ⌝ }
     ensures { λ r. ⌜ partOf r ≡ recordPart (now (maker .entry)) number ⌝ }
@@ -94,7 +94,7 @@ pub fn record_at<'a>(maker: &'a [u8], depot: &'a [u8], number: usize) -> Record
     }
 }
 
-// Whether a record counts as a rule. Every one does; where some do not, it is said here, and `isRule` is the definition.
+// Whether a record counts as a rule: every one does. Whoever goes through the rules asks here.
 pub fn is_rule(q: Record) -> bool
     ensures { λ r. ⌜ r ≡ isRule (asRec q) ⌝ }
 {

@@ -2,6 +2,8 @@
 // of its own.
 mod look;
 
+ghost use mathlib.Core.Path.{_≡_};
+ghost use mathlib.Core.Bool.{false};
 ghost use lib.ListN.{take};
 ghost use Rattle.spec.specs.Records.{rulesIn};
 ghost use Rattle.kits.specs.Order.{AnswerTo};
@@ -21,6 +23,16 @@ pub struct Found {
     pub sheet: Sheet,
 }
 
+// No kit is found; what the sheet says is of no matter then.
+fn nothing(sheet: Sheet) -> Found
+    ensures { λ r. ⌜ r .found ≡ false ⌝ }
+{
+    Found {
+        found: false,
+        sheet,
+    }
+}
+
 // The first kit of the sheet, and if `after` the first strictly after the given list.
 pub fn search<'a>(
     maker: &'a [u8],
@@ -34,18 +46,14 @@ pub fn search<'a>(
     ensures { λ r. ⌜ AnswerTo (Wanted (rulesIn (now (maker .entry)) (now (depot .entry))) n (sheet .states) after (now (given .entry)))
         (r .found) (take n (r .sheet .states)) ⌝ }
 {
-    let none = Found {
-        found: false,
-        sheet,
-    };
     let mut states = sheet.states;
     if run(maker, depot, &mut states) {
-        return none;
+        return nothing(sheet);
     }
     let b = lowest_open(&states[..], n);
     let standing = standing_to(&states[..], given, b, after);
     if let Standing::Before = standing {
-        return none;
+        return nothing(sheet);
     }
     let bound = is_bound(standing);
     let here = Sheet { states };

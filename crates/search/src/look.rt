@@ -28,7 +28,7 @@ pub fn lowest_open(states: &[u8], n: usize) -> usize
     b
 }
 
-// The lowest box where the two differ decides, if that is one of the first b.
+// How the first b boxes stand to a list that is to be passed: the lowest of them where the two differ decides.
 fn standing_of(states: &[u8], given: &[u8], b: usize) -> Standing
     requires { ⌜ b ≤ length (now states) ⌝ }
     requires { ⌜ b ≤ length (now given) ⌝ }
@@ -47,7 +47,7 @@ fn standing_of(states: &[u8], given: &[u8], b: usize) -> Standing
     Standing::Same
 }
 
-// The same, where the given list is to be passed only if `after`.
+// How the first b boxes stand to the given list, which is to be passed if `after`.
 pub fn standing_to(states: &[u8], given: &[u8], b: usize, after: bool) -> Standing
     requires { ⌜ b ≤ length (now states) ⌝ }
     requires { ⌜ (after ≡ true → b ≤ length (now given)) ⌝ }

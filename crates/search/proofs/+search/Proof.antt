@@ -3,7 +3,7 @@
 use borrow.Author.Needs.{needs}
 use mathlib.Core.Path.{_≡_, sym, subst, subst⁻¹, _∙_}
 use mathlib.Core.Bool.{Bool, true, false}
-use mathlib.Core.List.{List, []}
+use mathlib.Core.List.{List}
 use Prim.Native.Nat.{ℕ, _≤_, _<_}
 use native.Mathlib.Omega.{arith}
 use lib.ListN.{length, take, set}
@@ -21,6 +21,7 @@ use borrow.Fn.PlainCycle.{Measures, is, falls, and}
 use Rattle.search.proofs.search.Reads as search′
 use Rattle.search.proofs.search.Kinds as search-kinds
 use Rattle.search.proofs.+search.Lts-search as search-lts
+use Rattle.search.proofs.nothing.Reads as nothing-reads
 use Rattle.engine.proofs.run.Reads as run-reads
 use Rattle.search.proofs.look.is_bound.Reads as is-bound-reads
 use Rattle.search.proofs.look.lowest_open.Reads as lowest-open-reads
@@ -42,6 +43,8 @@ abbrev claims : ℕ → search-lts.Claims
 claims t = (
   run-reads.Asked,
   run-reads.Learnt,
+  nothing-reads.Asked,
+  nothing-reads.Learnt,
   lowest-open-reads.Asked,
   lowest-open-reads.Learnt,
   standing-to-reads.Asked,
@@ -123,9 +126,15 @@ module _ (t : ℕ) where
       let began = c .before .before .before .before .before in
       (accepted-all (began .pre .1 .tables), began .pre .1 .cells)
 
+  search-nothing-requires : search-lts.Need-nothing-requires (claims t) (search-at t) search′.Post
+  search-nothing-requires c κs = search needs
+
   search-returns : search-lts.Need-returns (claims t) (search-at t) search′.Post
   search-returns c =
-      trial-clash (start (c .before) .pre .1) (subst (RestedAs (c .before)) (c .if1 .taken) (c .before .run .ensures)) []
+      let here = c .before .before in
+      let l = take (start here .args .n) (c .nothing .result .sheet .states) in
+      with-found (sought (start here)) false (c .nothing .result .found) l (sym (c .nothing .ensures))
+      (trial-clash (start here .pre .1) (subst (RestedAs here) (c .before .if1 .taken) (here .run .ensures)) l)
 
   search-slice-aggregate-lowest-open : search-lts.Need-slice-aggregate-lowest-open (claims t) (search-at t) search′.Post
   search-slice-aggregate-lowest-open c = sym (rest-room (c .before))
@@ -149,10 +158,16 @@ module _ (t : ℕ) where
   search-enum-told : search-lts.Need-enum-told (claims t) (search-at t) search′.Post
   search-enum-told c = search needs
 
+  search-nothing-requires-2 : search-lts.Need-nothing-requires-2 (claims t) (search-at t) search′.Post
+  search-nothing-requires-2 c κs = search needs
+
   search-returns-2 : search-lts.Need-returns-2 (claims t) (search-at t) search′.Post
   search-returns-2 c =
-      let here = c .before .before in
-      trial-before (start (ran here) .pre .1) (looked here) (c .enum-told .given .1) []
+      let here = c .before .before .before in
+      let began = start (ran here) in
+      let l = take (began .args .n) (c .nothing2 .result .sheet .states) in
+      with-found (sought began) false (c .nothing2 .result .found) l (sym (c .nothing2 .ensures))
+      (trial-before (began .pre .1) (looked here) (c .before .enum-told .given .1) l)
 
   search-is-bound-requires : search-lts.Need-is-bound-requires (claims t) (search-at t) search′.Post
   search-is-bound-requires c κs = search needs
@@ -233,12 +248,14 @@ pub +search-spec : {M : Type 1} → statement M
     (search-at t)
     search′.Post
     (search-run-requires t)
+    (search-nothing-requires t)
     (search-returns t)
     (search-slice-aggregate-lowest-open t)
     (search-lowest-open-requires t)
     (search-slice-aggregate-standing-to t)
     (search-standing-to-requires t)
     (search-enum-told t)
+    (search-nothing-requires-2 t)
     (search-returns-2 t)
     (search-is-bound-requires t)
     (search-returns-3 t)
