@@ -45,7 +45,8 @@ module _ (line : List ℕ) where
 
       pub answer-fields : (length (fieldsOf line) ≡ rowAt k .many + 1 → ⊥) → answerOf line ≡ errorFor (ascii "fields")
       answer-fields other =
-          in-row ∙ rw (ne-eqb (length (drop 1 (fieldsOf line))) (rowAt k .many) (λ same. other (omega (arith, same, length-drop 1 (fieldsOf line), row-many k known))))
+          in-row ∙ rw (ne-eqb (length (drop 1 (fieldsOf line))) (rowAt k .many)
+          (λ same. other (omega (arith, same, length-drop 1 (fieldsOf line), row-many k known))))
 
       -- the fields after the word: as many as the row wants
       module _ (same : length (fieldsOf line) ≡ rowAt k .many + 1) where

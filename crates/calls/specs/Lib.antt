@@ -1,4 +1,4 @@
 pub mod Words
-pub mod Room
 pub mod Rows
+pub mod Room
 pub mod Lines

@@ -3,7 +3,7 @@
 ghost use Prim.Native.Nat.{_≤_};
 ghost use lib.ListN.{length, getD};
 ghost use Rattle.calls.specs.Rows.{fillAnswer, testAnswer, showAnswer, firstAnswer, nextAnswer};
-ghost use Rattle.calls.specs.Room.{Asked, Answered};
+ghost use Rattle.calls.specs.Room.{InParts, Answered};
 use crate::words::put_buffer;
 use crate::words::put_counted;
 use crate::words::put_done;
@@ -21,7 +21,7 @@ pub fn answer_fill(
     text: &mut [u8],
     at: usize,
 ) -> usize
-    requires { ⌜ Asked (now bytes) ends (now text) at ⌝ }
+    requires { ⌜ InParts (now bytes) ends (now text) at ⌝ }
     requires { ⌜ getD ends 8 0 ≤ length (now out) ⌝ }
     ensures { λ r. ⌜ Answered (now (bytes .entry)) ends fillAnswer (now (text .entry)) at (now (text .exit)) r ⌝ }
 {
@@ -37,7 +37,7 @@ pub fn answer_fill(
 }
 
 pub fn answer_test(bytes: &[u8], ends: [usize; 9], text: &mut [u8], at: usize) -> usize
-    requires { ⌜ Asked (now bytes) ends (now text) at ⌝ }
+    requires { ⌜ InParts (now bytes) ends (now text) at ⌝ }
     ensures { λ r. ⌜ Answered (now (bytes .entry)) ends testAnswer (now (text .entry)) at (now (text .exit)) r ⌝ }
 {
     let answer = desk::test(
@@ -53,7 +53,7 @@ pub fn answer_test(bytes: &[u8], ends: [usize; 9], text: &mut [u8], at: usize) -
 }
 
 pub fn answer_show(bytes: &[u8], ends: [usize; 9], text: &mut [u8], at: usize) -> usize
-    requires { ⌜ Asked (now bytes) ends (now text) at ⌝ }
+    requires { ⌜ InParts (now bytes) ends (now text) at ⌝ }
     ensures { λ r. ⌜ Answered (now (bytes .entry)) ends showAnswer (now (text .entry)) at (now (text .exit)) r ⌝ }
 {
     let shown = desk::show(
@@ -72,7 +72,7 @@ pub fn answer_first(
     text: &mut [u8],
     at: usize,
 ) -> usize
-    requires { ⌜ Asked (now bytes) ends (now text) at ⌝ }
+    requires { ⌜ InParts (now bytes) ends (now text) at ⌝ }
     requires { ⌜ getD ends 8 0 ≤ length (now out) ⌝ }
     ensures { λ r. ⌜ Answered (now (bytes .entry)) ends firstAnswer (now (text .entry)) at (now (text .exit)) r ⌝ }
 {
@@ -94,7 +94,7 @@ pub fn answer_next(
     text: &mut [u8],
     at: usize,
 ) -> usize
-    requires { ⌜ Asked (now bytes) ends (now text) at ⌝ }
+    requires { ⌜ InParts (now bytes) ends (now text) at ⌝ }
     requires { ⌜ getD ends 8 0 ≤ length (now out) ⌝ }
     ensures { λ r. ⌜ Answered (now (bytes .entry)) ends nextAnswer (now (text .entry)) at (now (text .exit)) r ⌝ }
 {

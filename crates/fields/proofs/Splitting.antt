@@ -29,7 +29,8 @@ module _ (mark : ℕ) where
     where
       at : (b : Bool) → (until mark l < length l → cutAt mark (l ++ more) ≡ take (until mark l) l ∷ cutAt mark (drop (suc (until mark l)) l ++ more)) →
           cond b 0 (suc (until mark l)) < suc (length l) →
-          inFront b c (cutAt mark (l ++ more)) ≡ take (cond b 0 (suc (until mark l))) (c ∷ l) ∷ cutAt mark (drop (suc (cond b 0 (suc (until mark l)))) (c ∷ l) ++ more)
+          inFront b c (cutAt mark (l ++ more)) ≡ take (cond b 0 (suc (until mark l))) (c ∷ l) ∷ cutAt mark
+          (drop (suc (cond b 0 (suc (until mark l)))) (c ∷ l) ++ more)
       at true rest h = refl
       at false rest h = ap (inFront false c) (rest (omega arith))
 

@@ -4,7 +4,8 @@ use mathlib.Core.Path.{_≡_, refl, sym, ap, _∙_}
 use mathlib.Core.Logic.{∥∥₁-elim, ⊎-elim}
 use mathlib.Core.HLevel.{⊥-prop}
 use mathlib.Core.Bool.{Bool, true, false, true≢false, cond}
-use mathlib.Core.List.{List, [], _∷_, _++_, map, List·Memᴰ, List·Memᴰ·head, List·Memᴰ·tail, List·Memᴰ·append-cases, Memᴰ·append-right, List·Nodup, nodup-nil, nodup-cons}
+use mathlib.Core.List.{List, [], _∷_, _++_, map, List·Memᴰ, List·Memᴰ·head, List·Memᴰ·tail, List·Memᴰ·append-cases, Memᴰ·append-right, List·Nodup}
+use mathlib.Core.List.{nodup-nil, nodup-cons}
 use Rattle.lemmas.specs.Lists.{those}
 use Rattle.lemmas.specs.Ascends.{Ascends}
 use Rattle.lemmas.proofs.Members.{member-map}

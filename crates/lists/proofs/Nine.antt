@@ -36,6 +36,6 @@ module _ (maker depot sheet out : List ℕ) where
       fillSays maker depot sheet out ≡ refused (reason 7 0) → NextIs maker depot sheet given out (refused (reason 9 0)) out
   clash-next given form seven =
       let sheet-passes = judge-left (sheetChecks maker depot sheet)
-          (givenCheck (length sheet) given ∷ outCheck (length sheet) out ∷ listCheck given ∷ []) form in
+      (givenCheck (length sheet) given ∷ outCheck (length sheet) out ∷ listCheck given ∷ []) form in
       let room = next-accepted maker depot sheet given out form .out-length in
       next-none maker depot sheet given out form [] (clash-none (first-passes maker depot sheet sheet-passes out room) seven true given)

@@ -11,7 +11,8 @@ use lib.ListN.{getD}
 use Rattle.spec.specs.Refusals.{Refusal as Numbered, numbered, Said, Does}
 use Rattle.spec.proofs.Judge.{does-unique}
 use Rattle.refusals.specs.declared.Refusal.{Refusal}
-use Rattle.refusals.specs.declared.Refusal.the-variants.{Boxes, MakerLength, DepotLength, RecordCount, BadRecord, SheetByte, GivenLength, OutLength, ListByte}
+use Rattle.refusals.specs.declared.Refusal.the-variants.{Boxes, MakerLength, DepotLength, RecordCount, BadRecord, SheetByte, GivenLength}
+use Rattle.refusals.specs.declared.Refusal.the-variants.{OutLength, ListByte}
 use Rattle.refusals.specs.Refusing.{refusalOf}
 
 abbrev pub numberOf : Numbered → ℕ

@@ -2,7 +2,8 @@
 -- Assumes nothing.
 use Rattle.spec.specs.Refusals.{Refusal as Numbered, reason}
 use Rattle.refusals.specs.declared.Refusal.{Refusal}
-use Rattle.refusals.specs.declared.Refusal.the-variants.{Boxes, MakerLength, DepotLength, RecordCount, BadRecord, SheetByte, GivenLength, OutLength, ListByte}
+use Rattle.refusals.specs.declared.Refusal.the-variants.{Boxes, MakerLength, DepotLength, RecordCount, BadRecord, SheetByte, GivenLength}
+use Rattle.refusals.specs.declared.Refusal.the-variants.{OutLength, ListByte}
 
 abbrev pub refusalOf : Refusal → Numbered
 refusalOf Boxes = reason 1 0

@@ -9,13 +9,13 @@ ghost use Rattle.report.specs.Listing.{kitLines, listingOf, page, listsP
 ghost use Rattle.report.specs.Asking.{Listable, RoomForSheet};
 use crate::asking::first_kit;
 use crate::asking::next_kit;
-use refusals::REFUSED;
 use crate::lines::put_end;
 use crate::lines::put_header;
 use crate::lines::put_list;
 use crate::lines::put_more;
 use crate::lines::put_refused;
 use records::count;
+use refusals::REFUSED;
 use sheet::count_open;
 
 const MOST_LISTS: usize = 64;

@@ -15,7 +15,8 @@ use Rattle.lemmas.proofs.Tests.{false-T, or-false-left, or-false-right}
 use Rattle.lemmas.proofs.Members.{any-member, any-of}
 use Rattle.spec.specs.Kinds.{kindOf}
 use Rattle.spec.specs.Records.{Rec, bad, boxesOf, noKind, lacksZ, twoEqual, recordAt, recordCount}
-use Rattle.spec.specs.Refusals.{passed, Check, judge, tableChecks, sheetChecks, orderChecks, nextChecks, boxesCheck, makerCheck, depotCheck, countCheck, recordCheck, sheetCheck, givenCheck, outCheck, listCheck}
+use Rattle.spec.specs.Refusals.{passed, Check, judge, tableChecks, sheetChecks, orderChecks, nextChecks, boxesCheck, makerCheck, depotCheck}
+use Rattle.spec.specs.Refusals.{countCheck, recordCheck, sheetCheck, givenCheck, outCheck, listCheck}
 use Rattle.spec.specs.Fits.{testChecks}
 use Rattle.spec.proofs.Judge.{Passes, judge-passes, judge-left, judge-right}
 

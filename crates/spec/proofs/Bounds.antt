@@ -11,7 +11,8 @@ use Rattle.spec.specs.Records.{Rec, recFrom, recordAt, boxAt, boxesOf, n
 use Rattle.spec.specs.Fits.{testJudges, testSays}
 use Rattle.spec.specs.Fill.{fillJudges, fillSays}
 use Rattle.spec.specs.Kits.{nextSays}
-use Rattle.spec.specs.Refusals.{Said, reason, refused, answered, passed, Check, boxesCheck, makerCheck, depotCheck, countCheck, recordCheck, sheetCheck, givenCheck, outCheck, listCheck}
+use Rattle.spec.specs.Refusals.{Said, reason, refused, answered, passed, Check, boxesCheck, makerCheck, depotCheck, countCheck, recordCheck}
+use Rattle.spec.specs.Refusals.{sheetCheck, givenCheck, outCheck, listCheck}
 
 -- a record of kind 3 but for one field
 abbrev andRec : (kind byte1 x y z : ℕ) → Rec

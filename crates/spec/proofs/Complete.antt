@@ -15,7 +15,9 @@ use Rattle.lemmas.proofs.Those.{those-member, member-those}
 use Rattle.spec.specs.Kinds.{Kind, AND, kinds, placesOf, meaning}
 use Rattle.spec.specs.Rules.{Rule, rulesOf, _gives_, only, both, x-in, x-out, y-in, y-out, z-in, z-out}
 use Rattle.spec.specs.SameRule.{samePlace, sameLiteral, sameRule}
-use Rattle.spec.specs.Minimal.{Constraint, constraintOf, states, put, rows, tuples, subsequence, nonEmpty, placesIn, sideFor, ruleFor, sayings, says, rulesOver, rulesFor, agrees, valid, feasible, extends, impliedBy, properlyImpliedBy, minimal, minimalValid, minimalRules, Complete}
+use Rattle.spec.specs.Minimal.{Constraint, constraintOf, states, put, rows, tuples, subsequence, nonEmpty, placesIn, sideFor, ruleFor, sayings}
+use Rattle.spec.specs.Minimal.{says, rulesOver, rulesFor, agrees, valid, feasible, extends, impliedBy, properlyImpliedBy, minimal, minimalValid}
+use Rattle.spec.specs.Minimal.{minimalRules, Complete}
 use Rattle.spec.proofs.EveryKind.{kind-all}
 use Rattle.spec.proofs.SameRule.{same-rule, same-rule-refl}
 use Rattle.spec.proofs.RulesFor.{rule-listed}

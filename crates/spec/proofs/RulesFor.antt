@@ -14,7 +14,8 @@ use Rattle.lemmas.proofs.Those.{those-member, member-those}
 use Rattle.spec.specs.Kinds.{Place}
 use Rattle.spec.specs.Rules.{Literal, Rule, _gives_}
 use Rattle.spec.specs.SameRule.{samePlace}
-use Rattle.spec.specs.Minimal.{Constraint, subsequence, nonEmpty, placesIn, sideFor, ruleFor, Saying, nothing, premise, conclusion, sayings, says, rulesOver, rulesFor}
+use Rattle.spec.specs.Minimal.{Constraint, subsequence, nonEmpty, placesIn, sideFor, ruleFor, Saying, nothing, premise, conclusion, sayings}
+use Rattle.spec.specs.Minimal.{says, rulesOver, rulesFor}
 use Rattle.spec.proofs.SameRule.{same-place, same-place-refl}
 
 saying-listed : (a : Saying) → List·Memᴰ a sayings

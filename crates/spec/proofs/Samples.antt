@@ -10,7 +10,8 @@ use Rattle.spec.specs.Rules.{rulesOf}
 use Rattle.spec.specs.Records.{recFrom, recordAt, recordCount, isRule, rulesIn, boxAt, boxesOf, noKind, lacksZ, twoEqual, bad}
 use Rattle.spec.specs.Facts.{holds}
 use Rattle.spec.specs.Rounds.{has, names, gives, follows, code, round, closed}
-use Rattle.spec.specs.Refusals.{Said, reason, refused, answered, boxesCheck, makerCheck, depotCheck, countCheck, recordCheck, sheetCheck, givenCheck, outCheck, listCheck}
+use Rattle.spec.specs.Refusals.{Said, reason, refused, answered, boxesCheck, makerCheck, depotCheck, countCheck, recordCheck, sheetCheck}
+use Rattle.spec.specs.Refusals.{givenCheck, outCheck, listCheck}
 use Rattle.spec.specs.Fits.{isIn, breaks, isBroken, firstBroken, Verdict, broken, testJudges, testSays, Part, recordPart, showsPart}
 use Rattle.spec.specs.Fill.{closureOf, clashes, boxesFilled, openCount, clashCheck, brokenCheck, fillJudges, fillSays, fillWrites}
 use Rattle.spec.specs.Kits.{keeps, fitsAll, kits, kitsAfter, isNone, headOf, noneCheck, handedOut, firstSays, firstWrites, nextSays, nextWrites}

@@ -52,7 +52,8 @@ module _ (maker depot : List ℕ) (number : ℕ) where
       go true e = in-maker whole (ltb-true _ _ e)
       go false e = in-depot (ltb-false _ _ e)
 
-  pub shown-record : (l : List ℕ) → testSays maker depot l ≡ answered (broken number) → bytesOf maker depot (showsPart maker depot l) ≡ eightBytes maker depot number
+  pub shown-record : (l : List ℕ) → testSays maker depot l ≡ answered (broken number) → bytesOf maker depot (showsPart maker depot l) ≡ eightBytes maker depot
+      number
   unfolding showsPart
   shown-record l e =
       ap (λ (a : Said Verdict). bytesOf maker depot (partFor maker a)) e

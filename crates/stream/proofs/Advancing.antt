@@ -85,7 +85,8 @@ module _ (input : List ℕ) where
           ∙ sym (put-front (omega (arith, within .puts .after, fitting)) (within .puts))
 
 -- the last line
-pub finish-line : (input old text : List ℕ) (at : ℕ) → until 10 input ≡ length input → at ≤ length old → Put old 0 (replyTo input) text at → Finished input text at
+pub finish-line : (input old text : List ℕ) (at : ℕ) → until 10 input ≡ length input → at ≤ length old → Put old 0 (replyTo input) text at → Finished input
+    text at
 unfolding outputFor
 finish-line input old text at last room put =
     record {

@@ -206,7 +206,7 @@ module _ {M : Type 1} (𝓤 : URA M) (H : Heap 𝓤) (A : Atoms 𝓤) (W : Given
     }
 
   -- ---- a field of a value
-  pub record Part (τ : Ty) (k : ℕ) (v u : Val) : Type 2 where
+  pub record FieldAt (τ : Ty) (k : ℕ) (v u : Val) : Type 2 where
     ty : Ty
     off : ℕ
     is : fieldOf τ k ≡ some (ty, off)
@@ -214,12 +214,12 @@ module _ {M : Type 1} (𝓤 : URA M) (H : Heap 𝓤) (A : Atoms 𝓤) (W : Given
     wt : WT v → WT u
 
   abbrev in-struct : (ν : Sym) (τs : Tys) (k : ℕ) (us : Vals) (o : Option (Ty × ℕ)) → fieldAt zero τs k ≡ o
-      → Option ((u : Val) × Part (tyStruct ν τs) k (vstruct us) u)
+      → Option ((u : Val) × FieldAt (tyStruct ν τs) k (vstruct us) u)
   in-struct ν τs k us none e = none
   in-struct ν τs k us (some f) e =
       some (getV us k, record { ty = f .0; off = f .1; is = e; read = λ q b o Γ. look-in ! 0 (sub ! k e (whole !)); wt = wt-field us k })
 
-  abbrev of-fields : (ν : Sym) (τs : Tys) (k : ℕ) (v : Val) → Option ((u : Val) × Part (tyStruct ν τs) k v u)
+  abbrev of-fields : (ν : Sym) (τs : Tys) (k : ℕ) (v : Val) → Option ((u : Val) × FieldAt (tyStruct ν τs) k v u)
   of-fields ν τs k vunit = none
   of-fields ν τs k (vbool b) = none
   of-fields ν τs k (vint w n) = none
@@ -227,7 +227,7 @@ module _ {M : Type 1} (𝓤 : URA M) (H : Heap 𝓤) (A : Atoms 𝓤) (W : Given
   of-fields ν τs k (vptr b o) = none
   of-fields ν τs k (vstruct us) = in-struct ν τs k us (fieldAt zero τs k) refl
 
-  abbrev part : (τ : Ty) (k : ℕ) (v : Val) → Option ((u : Val) × Part τ k v u)
+  abbrev part : (τ : Ty) (k : ℕ) (v : Val) → Option ((u : Val) × FieldAt τ k v u)
   part (tyInt w) k v = none
   part tyBool k v = none
   part (tyFloat f) k v = none
@@ -255,7 +255,7 @@ module _ {M : Type 1} (𝓤 : URA M) (H : Heap 𝓤) (A : Atoms 𝓤) (W : Given
       pub whole-is : OpdIs (copy (place i [])) v
       whole-is = (λ bs R. load ! (finds l bs σ R (stop !)) (reads l bs σ R v e (look ! 0 refl)), λ g. subst Within e (g i))
 
-      module _ (k : ℕ) (u : Val) (p : Part τ k v u) where
+      module _ (k : ℕ) (u : Val) (p : FieldAt τ k v u) where
         part-read : (bs : ℕ → ℕ) (R : SProp 𝓤) → Reads (Go {0}) W (Cx τs bs σ R) (p .ty) (bs i) (zero + p .off) u
         part-read bs R = reads l bs σ R v e (p .read fullShare (bs i) zero (‵ (Less τs bs σ i) ∷ raw R ∷ []))
 

@@ -19,7 +19,8 @@ enum-known-length c = search needs
 returns : tie.Need-returns
 returns c =
     let start = c .before .before .before .before .before .before in
-    chain-refused (givenCheck (start .args .n) (start .args .given .now) ∷ []) (outCheck (start .args .n) (start .args .out .now) ∷ listCheck (start .args .given .now) ∷ []) passed
+    chain-refused (givenCheck (start .args .n) (start .args .given .now) ∷ [])
+    (outCheck (start .args .n) (start .args .out .now) ∷ listCheck (start .args .given .now) ∷ []) passed
     (ap formSays (sym (c .before .length .given .1)) ∙ c .before .before .before .check-given .ensures)
 
 enum-told : tie.Need-enum-told
@@ -31,7 +32,8 @@ check-out-and-list-requires c κs = search needs
 returns-2 : tie.Need-returns-2
 returns-2 c =
     let start = c .before .before .before .before .before .before in
-    chain-passed (givenCheck (start .args .n) (start .args .given .now) ∷ []) (outCheck (start .args .n) (start .args .out .now) ∷ listCheck (start .args .given .now) ∷ [])
+    chain-passed (givenCheck (start .args .n) (start .args .given .now) ∷ [])
+    (outCheck (start .args .n) (start .args .out .now) ∷ listCheck (start .args .given .now) ∷ [])
     (ap formSays (sym (c .before .enum-told .given .1)) ∙ c .before .before .before .check-given .ensures)
     (c .check-out-and-list .ensures)
 

@@ -19,7 +19,9 @@ enum-known-form c = search needs
 returns : tie.Need-returns
 returns c =
     let start = c .before .before .before .before .before .before .before .before .before in
-    chain-refused (sheetChecks (start .args .maker .now) (start .args .depot .now) (start .args .sheet .now)) (givenCheck (length (start .args .sheet .now)) (start .args .given .now) ∷ outCheck (length (start .args .sheet .now)) (start .args .out .now) ∷ listCheck (start .args .given .now) ∷ []) passed
+    chain-refused (sheetChecks (start .args .maker .now) (start .args .depot .now) (start .args .sheet .now))
+    (givenCheck (length (start .args .sheet .now)) (start .args .given .now) ∷ outCheck (length (start .args .sheet .now)) (start .args .out .now) ∷
+    listCheck (start .args .given .now) ∷ []) passed
     (ap formSays (sym (c .before .form .given .1)) ∙ c .before .before .before .check-sheet-call .ensures)
 
 enum-told : tie.Need-enum-told
@@ -31,7 +33,9 @@ check-lists-requires c κs = search needs
 returns-2 : tie.Need-returns-2
 returns-2 c =
     let start = c .before .before .before .before .before .before .before .before .before in
-    chain-passed (sheetChecks (start .args .maker .now) (start .args .depot .now) (start .args .sheet .now)) (givenCheck (length (start .args .sheet .now)) (start .args .given .now) ∷ outCheck (length (start .args .sheet .now)) (start .args .out .now) ∷ listCheck (start .args .given .now) ∷ [])
+    chain-passed (sheetChecks (start .args .maker .now) (start .args .depot .now) (start .args .sheet .now))
+    (givenCheck (length (start .args .sheet .now)) (start .args .given .now) ∷ outCheck (length (start .args .sheet .now)) (start .args .out .now) ∷
+    listCheck (start .args .given .now) ∷ [])
     (ap formSays (sym (c .before .enum-told .given .1)) ∙ c .before .before .before .check-sheet-call .ensures)
     (c .check-lists .ensures)
 

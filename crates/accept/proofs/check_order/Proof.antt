@@ -19,7 +19,8 @@ enum-known-form c = search needs
 returns : tie.Need-returns
 returns c =
     let start = c .before .before .before .before .before .before .before .before in
-    chain-refused (sheetChecks (start .args .maker .now) (start .args .depot .now) (start .args .sheet .now)) (outCheck (length (start .args .sheet .now)) (start .args .out .now) ∷ []) passed
+    chain-refused (sheetChecks (start .args .maker .now) (start .args .depot .now) (start .args .sheet .now))
+    (outCheck (length (start .args .sheet .now)) (start .args .out .now) ∷ []) passed
     (ap formSays (sym (c .before .form .given .1)) ∙ c .before .before .before .check-sheet-call .ensures)
 
 enum-told : tie.Need-enum-told
@@ -31,7 +32,8 @@ check-out-requires c κs = search needs
 returns-2 : tie.Need-returns-2
 returns-2 c =
     let start = c .before .before .before .before .before .before .before .before in
-    chain-passed (sheetChecks (start .args .maker .now) (start .args .depot .now) (start .args .sheet .now)) (outCheck (length (start .args .sheet .now)) (start .args .out .now) ∷ [])
+    chain-passed (sheetChecks (start .args .maker .now) (start .args .depot .now) (start .args .sheet .now))
+    (outCheck (length (start .args .sheet .now)) (start .args .out .now) ∷ [])
     (ap formSays (sym (c .before .enum-told .given .1)) ∙ c .before .before .before .check-sheet-call .ensures)
     (c .check-out .ensures)
 

@@ -19,7 +19,8 @@ enum-known-tables c = search needs
 returns : tie.Need-returns
 returns c =
     let start = c .before .before .before .before .before .before .before in
-    chain-refused (tableChecks (length (start .args .sheet .now)) (start .args .maker .now) (start .args .depot .now)) (sheetCheck (start .args .sheet .now) ∷ []) passed
+    chain-refused (tableChecks (length (start .args .sheet .now)) (start .args .maker .now) (start .args .depot .now))
+    (sheetCheck (start .args .sheet .now) ∷ []) passed
     (ap formSays (sym (c .before .tables .given .1)) ∙ c .before .before .before .check-tables .ensures)
 
 enum-told : tie.Need-enum-told
@@ -31,7 +32,8 @@ check-sheet-requires c κs = search needs
 returns-2 : tie.Need-returns-2
 returns-2 c =
     let start = c .before .before .before .before .before .before .before in
-    chain-passed (tableChecks (length (start .args .sheet .now)) (start .args .maker .now) (start .args .depot .now)) (sheetCheck (start .args .sheet .now) ∷ [])
+    chain-passed (tableChecks (length (start .args .sheet .now)) (start .args .maker .now) (start .args .depot .now))
+    (sheetCheck (start .args .sheet .now) ∷ [])
     (ap formSays (sym (c .before .enum-told .given .1)) ∙ c .before .before .before .check-tables .ensures)
     (c .check-sheet .ensures)
 

@@ -25,7 +25,7 @@ count-requires c κs = search needs
 
 returns-4 : tie.Need-returns-4
 unfolding boxesCheck makerCheck depotCheck countCheck recordCheck
-returns-4 c = 
+returns-4 c =
     let whole = c .before .before in
     simp (
       le-ltb _ _ (whole .before .before .if1 .left),
@@ -40,7 +40,7 @@ first-bad-requires c κs = search needs
 
 returns-5 : tie.Need-returns-5
 unfolding boxesCheck makerCheck depotCheck countCheck recordCheck
-returns-5 c = 
+returns-5 c =
     let counted = c .before .before .before in
     let whole = counted .before in
     let args = whole .before .before .before .before .before .args in
@@ -56,7 +56,7 @@ returns-5 c =
 
 returns-6 : tie.Need-returns-6
 unfolding boxesCheck makerCheck depotCheck countCheck recordCheck
-returns-6 c = 
+returns-6 c =
     let counted = c .before .before .before in
     let whole = counted .before in
     let args = whole .before .before .before .before .before .args in

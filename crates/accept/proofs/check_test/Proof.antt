@@ -19,7 +19,8 @@ enum-known-tables c = search needs
 returns : tie.Need-returns
 returns c =
     let start = c .before .before .before .before .before .before .before in
-    chain-refused (tableChecks (length (start .args .list .now)) (start .args .maker .now) (start .args .depot .now)) (listCheck (start .args .list .now) ∷ []) passed
+    chain-refused (tableChecks (length (start .args .list .now)) (start .args .maker .now) (start .args .depot .now))
+    (listCheck (start .args .list .now) ∷ []) passed
     (ap formSays (sym (c .before .tables .given .1)) ∙ c .before .before .before .check-tables .ensures)
 
 enum-told : tie.Need-enum-told

@@ -31,7 +31,7 @@ is-bad-requires : tie.Need-is-bad-requires Inv-loop μ-loop
 is-bad-requires c κs = search needs
 
 returns : tie.Need-returns Inv-loop μ-loop
-returns c = 
+returns c =
     let l = c .before .before .before .before .loop in
     let tested = c .before .is-bad .ensures ∙ ap (bad _) (c .before .before .record-at .ensures) in
     searched-found (l .inv .1) (omega (arith, l .inv .0)) (sym tested ∙ c .if1 .taken)
@@ -43,7 +43,7 @@ loop-less : tie.Need-loop-less Inv-loop μ-loop
 loop-less c = search needs
 
 loop-again : tie.Need-loop-again Inv-loop μ-loop
-loop-again c = 
+loop-again c =
     let l = c .before .before .before .before .loop in
     let tested = c .before .is-bad .ensures ∙ ap (bad _) (c .before .before .record-at .ensures) in
     (l .inv .0, searched-next (l .inv .1) (omega (arith, l .inv .0)) (sym tested ∙ c .if1 .left))

@@ -31,7 +31,7 @@ same-length c = search needs
 
 returns : tie.Need-returns
 unfolding fillSays fillWrites
-returns c = 
+returns c =
     let checked = c .before .before .before in
     let a = called checked .args in
     does-refused (orderChecks (a .maker .now) (a .depot .now) (a .sheet .now) (a .out .now)) (fillJudges (a .maker .now) (a .depot .now) (a .sheet .now))
@@ -42,7 +42,7 @@ enum-told : tie.Need-enum-told
 enum-told c = search needs
 
 fill-carried-requires : tie.Need-fill-carried-requires
-fill-carried-requires c κs = 
+fill-carried-requires c κs =
     let a = called (c .before .before .before) .args in
     let known = order-accepted (a .maker .now) (a .depot .now) (a .sheet .now) (a .out .now) (passes (c .before)) in
     (known .order, known .out-length)
@@ -52,7 +52,7 @@ same-length-2 c = search needs
 
 returns-2 : tie.Need-returns-2
 unfolding fillSays fillWrites
-returns-2 c = 
+returns-2 c =
     let done = c .before .before in
     let told = done .before .before in
     let a = called (told .before .before) .args in

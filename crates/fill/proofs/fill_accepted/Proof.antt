@@ -73,7 +73,7 @@ load-requires : tie.Need-load-requires
 load-requires c κs = let start = c .before .before .before .before in omega (arith, start .pre .0 .sheet-length, start .pre .0 .tables .boxes)
 
 run-requires : tie.Need-run-requires
-run-requires c κs = 
+run-requires c κs =
     let loaded = c .before .before in
     let start = called loaded in (
       accepted-all (start .pre .0 .tables),
@@ -81,7 +81,7 @@ run-requires c κs =
     )
 
 returns : tie.Need-returns
-returns c = 
+returns c =
     let loaded = c .before .before .before .before in
     let start = called loaded in
     let clash = rested (c .before) true (c .if1 .taken) in
@@ -97,7 +97,7 @@ slice-aggregate-hand-out : tie.Need-slice-aggregate-hand-out
 slice-aggregate-hand-out c = sym (length-take-le _ (c .before .before .run .last .1 .1 .0) (rest-size (c .before)))
 
 hand-out-requires : tie.Need-hand-out-requires
-hand-out-requires c κs = 
+hand-out-requires c κs =
     let rest = c .before .before in
     let start = called (rest .before .before .before .before) in
     (start .pre .0 .tables .whole, (rest-filled rest, start .pre .1 ∙ sym (start .pre .0 .sheet-length)))

@@ -27,7 +27,7 @@ count-requires : tie.Need-count-requires
 count-requires c κs = search needs
 
 returns : tie.Need-returns
-returns c = 
+returns c =
     let start = called (c .before .before .before .before) in
     let found = c .before .before .first-broken in
     handed-broken (start .args .maker .now) (start .args .depot .now) (start .args .sheet .now) (start .args .out .now) (start .args .filled .now)
@@ -45,7 +45,7 @@ same-length : tie.Need-same-length
 same-length c = search needs
 
 returns-2 : tie.Need-returns-2
-returns-2 c = 
+returns-2 c =
     let stored = c .before .before .before in
     let opened = stored .before .before .before in
     let start = called opened in

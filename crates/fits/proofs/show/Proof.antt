@@ -38,7 +38,9 @@ enum-told-2 : tie.Need-enum-told-2
 enum-told-2 c = search needs
 
 -- the checks have passed
-passes : (c : tie.After-enum-told2) → judge (testChecks (c .before .before .before .before .before .before .args .maker .now) (c .before .before .before .before .before .before .args .depot .now) (c .before .before .before .before .before .before .args .list .now)) passed ≡ passed
+passes : (c : tie.After-enum-told2) → judge
+    (testChecks (c .before .before .before .before .before .before .args .maker .now) (c .before .before .before .before .before .before .args .depot .now)
+    (c .before .before .before .before .before .before .args .list .now)) passed ≡ passed
 passes c = sym (ap formSays (sym (c .enum-told2 .given .1)) ∙ c .before .before .check-test .ensures)
 
 show-carried-requires : tie.Need-show-carried-requires

@@ -62,7 +62,7 @@ count-requires : tie.Need-count-requires
 count-requires c κs = search needs
 
 place-of-requires : tie.Need-place-of-requires
-place-of-requires c κs = 
+place-of-requires c κs =
     let start = called (c .before .before) in
     let found = c .before .before .first-broken .result in
     let below = record-below (start .args .maker .now) (start .args .depot .now) (start .pre .whole) found (in-tables c) in
@@ -85,7 +85,7 @@ part-result-end c = let within = rw (c .if2 .taken) at (lies (c .before) .within
 
 returns : tie.Need-returns
 unfolding bytesOf
-returns c = 
+returns c =
     let place = c .before .before in
     let a = called (place .before .before .before) .args in
     shows-as (shown place (c .before .if2 .taken))
@@ -102,7 +102,7 @@ part-result-end-2 c = let within = rw (c .if2 .left) at (lies (c .before) .withi
 
 returns-2 : tie.Need-returns-2
 unfolding bytesOf
-returns-2 c = 
+returns-2 c =
     let place = c .before .before in
     let a = called (place .before .before .before) .args in
     shows-as (shown place (c .before .if2 .left))
@@ -119,7 +119,7 @@ part-result-end-3 c = search needs
 
 returns-3 : tie.Need-returns-3
 unfolding bytesOf
-returns-3 c = 
+returns-3 c =
     let said = judged-fits _ _ _ _ (c .before .before .before .first-broken .ensures) (omega (arith, c .before .before .count .ensures)) in
     shows-as (sym (ap (partFor _) said)) (record { table = refl; offset = refl; bytes = refl })
 

@@ -26,7 +26,9 @@ enum-told : tie.Need-enum-told
 enum-told c = search needs
 
 -- the checks have passed
-passes : (c : tie.After-enum-told) → judge (testChecks (c .before .before .before .before .before .before .args .maker .now) (c .before .before .before .before .before .before .args .depot .now) (c .before .before .before .before .before .before .args .list .now)) passed ≡ passed
+passes : (c : tie.After-enum-told) → judge
+    (testChecks (c .before .before .before .before .before .before .args .maker .now) (c .before .before .before .before .before .before .args .depot .now)
+    (c .before .before .before .before .before .before .args .list .now)) passed ≡ passed
 passes c = sym (ap formSays (sym (c .enum-told .given .1)) ∙ c .before .before .check-test .ensures)
 
 test-carried-requires : tie.Need-test-carried-requires

@@ -61,8 +61,10 @@ loop-less c = omega arith
 
 loop-again : tie.Need-loop-again Inv-loop μ-loop
 loop-again c =
-    let kept = c .before .before .before .before .before .before .buf .given .1 in
-    (omega (arith, kept, c .before .before .before .before .before .before .before .before .before .before .loop .inv .0, c .before .count .ensures .0 .0), kept ∙ c .before .before .before .before .before .before .before .before .before .before .loop .inv .1)
+    let kept = c .before .before .before .before .before .before .buf .given .1 in (
+      omega (arith, kept, c .before .before .before .before .before .before .before .before .before .before .loop .inv .0, c .before .count .ensures .0 .0),
+      kept ∙ c .before .before .before .before .before .before .before .before .before .before .loop .inv .1,
+    )
 
 same-length-2 : tie.Need-same-length-2 Inv-loop μ-loop
 same-length-2 c = c .before .loop .inv .1
@@ -71,7 +73,8 @@ returns-2 : tie.Need-returns-2 Inv-loop μ-loop
 returns-2 c = counts _ _ (c .before .loop .inv .0)
 
 same-length-3 : tie.Need-same-length-3 Inv-loop μ-loop
-same-length-3 c = c .before .before .before .before .before .before .buf .given .1 ∙ c .before .before .before .before .before .before .before .before .before .before .loop .inv .1
+same-length-3 c = c .before .before .before .before .before .before .buf .given .1 ∙
+    c .before .before .before .before .before .before .before .before .before .before .loop .inv .1
 
 returns-3 : tie.Need-returns-3 Inv-loop μ-loop
 returns-3 c =

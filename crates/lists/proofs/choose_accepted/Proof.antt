@@ -46,20 +46,20 @@ kit-size c =
     (c .if1 .taken) (c .before .search .ensures)
 
 load-requires : tie.Need-load-requires
-load-requires c κs = 
+load-requires c κs =
     let start = c .before .before .before .before .before in
     let a = start .args in
     call-fits (a .n) (a .maker .now) (a .depot .now) (a .sheet .now) (a .given .now) (a .after) (start .pre .0)
 
 search-requires : tie.Need-search-requires
-search-requires c κs = 
+search-requires c κs =
     let start = called c in
     let a = start .args in
     call-ready (a .n) (a .maker .now) (a .depot .now) (a .sheet .now) (a .given .now) (a .after) (start .pre .0) (start .pre .1 .1)
     (c .load .result .states) (c .load .ensures)
 
 array-share-prefix-states : tie.Need-array-share-prefix-states
-array-share-prefix-states c = 
+array-share-prefix-states c =
     let found = c .before .before in
     let n = called (found .before .before) .args .n in
     omega (arith, kit-size found, length-take n (found .before .search .result .sheet .states))
@@ -68,7 +68,7 @@ slice-aggregate-store : tie.Need-slice-aggregate-store
 slice-aggregate-store c = sym (kit-size (c .before .before .before))
 
 store-requires : tie.Need-store-requires
-store-requires c κs = 
+store-requires c κs =
     let found = c .before .before .before .before in
     called (found .before .before) .pre .1 .0 ∙ sym (kit-size found)
 
@@ -76,7 +76,7 @@ same-length : tie.Need-same-length
 same-length c = search needs
 
 returns : tie.Need-returns
-returns c = 
+returns c =
     let stored = c .before .before in
     let found = stored .before .before .before .before .before in
     record {

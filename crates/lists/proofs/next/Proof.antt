@@ -34,7 +34,7 @@ same-length c = search needs
 
 returns : tie.Need-returns
 unfolding nextSays nextWrites
-returns c = 
+returns c =
     let checked = c .before .before .before in
     let a = called checked .args in
     let all = kitsAfter (a .maker .now) (a .depot .now) (a .sheet .now) (a .given .now) in
@@ -45,7 +45,7 @@ enum-told : tie.Need-enum-told
 enum-told c = search needs
 
 choose-carried-requires : tie.Need-choose-carried-requires
-choose-carried-requires c κs = 
+choose-carried-requires c κs =
     let a = called (c .before .before .before) .args in
     let known = next-accepted (a .maker .now) (a .depot .now) (a .sheet .now) (a .given .now) (a .out .now) (passes (c .before)) in
     (known .order, (known .out-length, λ e. known .given-length))
@@ -54,25 +54,27 @@ same-length-2 : tie.Need-same-length-2
 same-length-2 c = search needs
 
 returns-2 : tie.Need-returns-2
-returns-2 c = 
+returns-2 c =
     let chosen = c .before .before .before in
     let told = chosen .before .before in
     let a = called (told .before .before) .args in
     let left = chosen .choose-carried .last .1 .1 .1 .1 .1 .1 .0 in
     subst (λ (r : Listed). NextDoes (a .maker .now) (a .depot .now) (a .sheet .now) (a .given .now) (a .out .now) r left) (ap listedAs (c .if1 .taken))
-    (next-does (a .maker .now) (a .depot .now) (a .sheet .now) (a .given .now) (a .out .now) (passes told) (chosen .choose-carried .result) left (chosen .choose-carried .ensures))
+    (next-does (a .maker .now) (a .depot .now) (a .sheet .now) (a .given .now) (a .out .now) (passes told) (chosen .choose-carried .result) left
+    (chosen .choose-carried .ensures))
 
 same-length-3 : tie.Need-same-length-3
 same-length-3 c = search needs
 
 returns-3 : tie.Need-returns-3
-returns-3 c = 
+returns-3 c =
     let chosen = c .before .before .before in
     let told = chosen .before .before in
     let a = called (told .before .before) .args in
     let left = chosen .choose-carried .last .1 .1 .1 .1 .1 .1 .0 in
     subst (λ (r : Listed). NextDoes (a .maker .now) (a .depot .now) (a .sheet .now) (a .given .now) (a .out .now) r left) (ap listedAs (c .if1 .left))
-    (next-does (a .maker .now) (a .depot .now) (a .sheet .now) (a .given .now) (a .out .now) (passes told) (chosen .choose-carried .result) left (chosen .choose-carried .ensures))
+    (next-does (a .maker .now) (a .depot .now) (a .sheet .now) (a .given .now) (a .out .now) (passes told) (chosen .choose-carried .result) left
+    (chosen .choose-carried .ensures))
 
 pub next-spec : {M : Type 1} → statement M
 next-spec =

@@ -16,7 +16,7 @@ same-length : tie.Need-same-length
 same-length c = search needs
 
 returns : tie.Need-returns
-returns c = 
+returns c =
     let asked = c .before .before .before .before in
     does-told handedNumbers (c .before .numbers .ensures) (asked .next .ensures)
 

@@ -29,13 +29,13 @@ place-of-requires : tie.Need-place-of-requires
 place-of-requires c κs = omega (arith, part-below _ _ _ _ (told (c .before .before)) (c .if1 .left))
 
 returns-2 : tie.Need-returns-2
-returns-2 c = 
+returns-2 c =
     let place = c .before .before in
     part-depots _ _ _ _ (told (place .before .before .before)) (place .before .if1 .left)
     (place .place-of .result) (place .place-of .ensures) (c .before .if2 .taken)
 
 returns-3 : tie.Need-returns-3
-returns-3 c = 
+returns-3 c =
     let place = c .before .before in
     part-makers _ _ _ _ (told (place .before .before .before)) (place .before .if1 .left)
     (place .place-of .result) (place .place-of .ensures) (c .before .if2 .left)

@@ -23,7 +23,7 @@ same-length : tie.Need-same-length
 same-length c = search needs
 
 returns : tie.Need-returns
-returns c = 
+returns c =
     let start = c .before .before .before .before .before .before .before .before .before .before .before in
     let first = c .before .before .before .before .before .before .before .put-field .ensures in
     room-within 50 (omega arith) (room-then {b = field " " (start .args .said .second)} first (c .before .before .put-field2 .ensures))

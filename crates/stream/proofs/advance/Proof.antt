@@ -12,7 +12,8 @@ use Rattle.stream.proofs.advance.Statement.{statement}
 use Rattle.stream.proofs.advance.Tie as tie
 
 -- no line feed is at hand
-no-feed : (c : tie.Else2) → until 10 (c .before .before .before .before .before .args .input .now) ≡ length (c .before .before .before .before .before .args .input .now)
+no-feed : (c : tie.Else2) → until 10 (c .before .before .before .before .before .args .input .now) ≡ length
+    (c .before .before .before .before .before .args .input .now)
 no-feed c = omega (arith, c .if2 .left, c .before .end-of .ensures, until-below 10 (c .before .before .before .before .before .args .input .now))
 
 skip-requires : tie.Need-skip-requires

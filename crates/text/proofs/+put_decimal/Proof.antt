@@ -85,7 +85,8 @@ put-decimal-put-byte-requires-2 t c κs =
     )
 
 put-decimal-same-length-2 : (t : ℕ) → put-decimal-lts.Need-same-length-2 (claims t) (put-decimal-at t) put-decimal.Post
-put-decimal-same-length-2 t c = put-length (c .before .before .put-byte2 .ensures) ∙ put-length (c .before .before .before .before .before .before .put-decimal .ensures)
+put-decimal-same-length-2 t c = put-length (c .before .before .put-byte2 .ensures) ∙ put-length
+    (c .before .before .before .before .before .before .put-decimal .ensures)
 
 put-decimal-returns-2 : (t : ℕ) → put-decimal-lts.Need-returns-2 (claims t) (put-decimal-at t) put-decimal.Post
 put-decimal-returns-2 t c =

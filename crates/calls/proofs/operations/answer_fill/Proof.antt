@@ -72,7 +72,8 @@ returns c =
     rw (shown .before .before .part .ensures, shown .before .part2 .ensures, shown .part3 .ensures, copied .copy-part .ensures .copied) at (does .fill .ensures)
     in
     put-lent (copied .copy-part .last .1 .1 .1 .0) (does .fill .last .1 .1 .1 .0) _ (copied .copy-part .ensures .within) (does .fill .kept .1 .1 .1 .0) _ _
-    (words .put-counted .ensures) (put .put-buffer .ensures) (filled-words _ (filledSays (does .fill .result)) (words .before .numbers .ensures) ∙ ap (wordsOf (field "filled ")) (promise .says))
+    (words .put-counted .ensures) (put .put-buffer .ensures)
+    (filled-words _ (filledSays (does .fill .result)) (words .before .numbers .ensures) ∙ ap (wordsOf (field "filled ")) (promise .says))
     (promise .writes) (copied .copy-part .ensures .below)
 
 pub answer-fill-spec : {M : Type 1} → statement M

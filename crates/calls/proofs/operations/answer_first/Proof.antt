@@ -69,10 +69,12 @@ returns c =
     let copied = shown .before .before .before .before .before in
     let start = copied .before .before .before .before .before in
     let promise =
-    rw (shown .before .before .part .ensures, shown .before .part2 .ensures, shown .part3 .ensures, copied .copy-part .ensures .copied) at (does .first .ensures)
+    rw (shown .before .before .part .ensures, shown .before .part2 .ensures, shown .part3 .ensures, copied .copy-part .ensures .copied) at
+    (does .first .ensures)
     in
     put-lent (copied .copy-part .last .1 .1 .1 .0) (does .first .last .1 .1 .1 .0) _ (copied .copy-part .ensures .within) (does .first .kept .1 .1 .1 .0) _ _
-    (words .put-done .ensures) (put .put-buffer .ensures) (listed-words _ (listedSays (does .first .result)) (words .before .numbers .ensures) ∙ ap (wordsOf handedWords) (promise .says))
+    (words .put-done .ensures) (put .put-buffer .ensures)
+    (listed-words _ (listedSays (does .first .result)) (words .before .numbers .ensures) ∙ ap (wordsOf handedWords) (promise .says))
     (promise .writes) (copied .copy-part .ensures .below)
 
 pub answer-first-spec : {M : Type 1} → statement M

@@ -58,7 +58,8 @@ put-buffer-requires c κs =
     let does = words .before .before .before .before .before .before in
     let copied = does .before .before .before .before .before .before .before .before in
     let start = copied .before .before .before .before .before in (
-      lent-within (copied .copy-part .last .1 .1 .1 .0) (does .next .last .1 .1 .1 .1 .0) _ (copied .copy-part .ensures .within) (does .next .kept .1 .1 .1 .1 .0),
+      lent-within (copied .copy-part .last .1 .1 .1 .0) (does .next .last .1 .1 .1 .1 .0) _ (copied .copy-part .ensures .within)
+          (does .next .kept .1 .1 .1 .1 .0),
       omega (arith, words .put-done .ensures .short, room-length (words .put-done .ensures), copied .copy-part .ensures .below, start .pre .0 .room),
     )
 
@@ -66,7 +67,8 @@ same-length : tie.Need-same-length
 same-length c =
     let does = c .before .before .before .before .before .before .before .before .before .before .before .before .before in
     let copied = does .before .before .before .before .before .before .before .before in
-    length-front (copied .copy-part .last .1 .1 .1 .0) (does .next .last .1 .1 .1 .1 .0) (copied .copy-part .result) (does .next .kept .1 .1 .1 .1 .0) ∙ copied .copy-part .kept .1 .1 .1 .0
+    length-front (copied .copy-part .last .1 .1 .1 .0) (does .next .last .1 .1 .1 .1 .0) (copied .copy-part .result) (does .next .kept .1 .1 .1 .1 .0) ∙
+    copied .copy-part .kept .1 .1 .1 .0
 
 same-length-2 : tie.Need-same-length-2
 same-length-2 c = search needs
@@ -87,8 +89,10 @@ returns c =
       copied .copy-part .ensures .copied,
     ) at (does .next .ensures)
     in
-    put-lent (copied .copy-part .last .1 .1 .1 .0) (does .next .last .1 .1 .1 .1 .0) _ (copied .copy-part .ensures .within) (does .next .kept .1 .1 .1 .1 .0) _ _
-    (words .put-done .ensures) (put .put-buffer .ensures) (listed-words _ (listedSays (does .next .result)) (words .before .numbers .ensures) ∙ ap (wordsOf handedWords) (promise .says))
+    put-lent (copied .copy-part .last .1 .1 .1 .0) (does .next .last .1 .1 .1 .1 .0) _ (copied .copy-part .ensures .within) (does .next .kept .1 .1 .1 .1 .0)
+    _ _
+    (words .put-done .ensures) (put .put-buffer .ensures)
+    (listed-words _ (listedSays (does .next .result)) (words .before .numbers .ensures) ∙ ap (wordsOf handedWords) (promise .says))
     (promise .writes) (copied .copy-part .ensures .below)
 
 pub answer-next-spec : {M : Type 1} → statement M

@@ -31,7 +31,14 @@ put-hex-requires c κs =
     let word = c .before .before .before .put-bytes .ensures in
     let shows = c .before .before .before .before .before .before in
     let start = c .before .before .before .before .before .before .before .before .before .before .before .before in
-    omega (arith, hex-length (shows .show .result .now), shown-short (shows .before .part3 .result .now) (shows .show .ensures), word .after, put-length word, start .pre .room)
+    omega (
+      arith,
+      hex-length (shows .show .result .now),
+      shown-short (shows .before .part3 .result .now) (shows .show .ensures),
+      word .after,
+      put-length word,
+      start .pre .room,
+    )
 
 same-length : tie.Need-same-length
 same-length c = search needs
@@ -46,7 +53,14 @@ returns c =
     in
     record {
       puts = rw (← promise) (put-then word put);
-      short = omega (arith, word .after, put .after, hex-length (shows .show .result .now), shown-short (shows .before .part3 .result .now) (shows .show .ensures));
+      short = omega (
+        arith,
+        word .after,
+        put .after,
+        hex-length (shows .show .result .now),
+        shown-short (shows .before .part3 .result .now)
+            (shows .show .ensures),
+      );
     }
 
 pub answer-show-spec : {M : Type 1} → statement M

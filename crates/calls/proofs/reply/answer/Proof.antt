@@ -56,7 +56,8 @@ end-of-requires c κs = search needs
 slice-aggregate-row-of : tie.Need-slice-aggregate-row-of
 slice-aggregate-row-of c =
     let start = c .before .before .before .before .before in
-    sym (length-take-le (c .before .end-of .result) (start .args .line .now) (end-below 32 (start .args .line .now) 0 _ (omega arith) (c .before .end-of .ensures)))
+    sym (length-take-le (c .before .end-of .result) (start .args .line .now)
+    (end-below 32 (start .args .line .now) 0 _ (omega arith) (c .before .end-of .ensures)))
 
 row-of-requires : tie.Need-row-of-requires
 row-of-requires c κs = search needs

@@ -10,12 +10,6 @@ use borrow.Author.Needs.{needs}
 use Rattle.calls.proofs.rows.answer_row.Statement.{statement}
 use Rattle.calls.proofs.rows.answer_row.Tie as tie
 
-room-requires : tie.Need-room-requires
-room-requires c κs = search needs
-
-slice-aggregate-answer-fill : tie.Need-slice-aggregate-answer-fill
-slice-aggregate-answer-fill c = search needs
-
 answer-fill-requires : tie.Need-answer-fill-requires
 answer-fill-requires c κs = search needs
 
@@ -25,20 +19,8 @@ answer-test-requires c κs = search needs
 answer-show-requires : tie.Need-answer-show-requires
 answer-show-requires c κs = search needs
 
-room-requires-2 : tie.Need-room-requires-2
-room-requires-2 c κs = search needs
-
-slice-aggregate-answer-first : tie.Need-slice-aggregate-answer-first
-slice-aggregate-answer-first c = search needs
-
 answer-first-requires : tie.Need-answer-first-requires
 answer-first-requires c κs = search needs
-
-room-requires-3 : tie.Need-room-requires-3
-room-requires-3 c κs = search needs
-
-slice-aggregate-answer-next : tie.Need-slice-aggregate-answer-next
-slice-aggregate-answer-next c = search needs
 
 answer-next-requires : tie.Need-answer-next-requires
 answer-next-requires c κs = search needs
@@ -46,41 +28,50 @@ answer-next-requires c κs = search needs
 same-length : tie.Need-same-length
 same-length c = search needs
 
-returns : tie.Need-returns
-unfolding rowAt
-returns c = let done = c .before .before .before in rw (done .before .before .before .before .match .keys1) (done .answer-fill .ensures)
-
 same-length-2 : tie.Need-same-length-2
 same-length-2 c = search needs
+
+returns : tie.Need-returns
+unfolding rowAt
+returns c = let done = c .before .before .before .before in rw (done .before .before .before .match .keys1) (done .answer-fill .ensures)
+
+same-length-3 : tie.Need-same-length-3
+same-length-3 c = search needs
 
 returns-2 : tie.Need-returns-2
 unfolding rowAt
 returns-2 c = let done = c .before .before in rw (done .before .before .match .keys2) (done .answer-test .ensures)
 
-same-length-3 : tie.Need-same-length-3
-same-length-3 c = search needs
+same-length-4 : tie.Need-same-length-4
+same-length-4 c = search needs
 
 returns-3 : tie.Need-returns-3
 unfolding rowAt
 returns-3 c = let done = c .before .before in rw (done .before .before .match .keys3) (done .answer-show .ensures)
 
-same-length-4 : tie.Need-same-length-4
-same-length-4 c = search needs
-
-returns-4 : tie.Need-returns-4
-unfolding rowAt
-returns-4 c = let done = c .before .before .before in rw (done .before .before .before .before .match .keys4) (done .answer-first .ensures)
-
 same-length-5 : tie.Need-same-length-5
 same-length-5 c = search needs
 
+same-length-6 : tie.Need-same-length-6
+same-length-6 c = search needs
+
+returns-4 : tie.Need-returns-4
+unfolding rowAt
+returns-4 c = let done = c .before .before .before .before in rw (done .before .before .before .match .keys4) (done .answer-first .ensures)
+
+same-length-7 : tie.Need-same-length-7
+same-length-7 c = search needs
+
+same-length-8 : tie.Need-same-length-8
+same-length-8 c = search needs
+
 returns-5 : tie.Need-returns-5
 unfolding rowAt
-returns-5 c = let done = c .before .before .before in rw (done .before .before .before .before .match .keys5) (done .answer-next .ensures)
+returns-5 c = let done = c .before .before .before .before in rw (done .before .before .before .match .keys5) (done .answer-next .ensures)
 
 returns-6 : tie.Need-returns-6
 returns-6 c =
-    let row = c .before .before .before .args .row in
+    let row = c .before .before .before .before .before .args .row in
     let past : length rows ≤ row = omega (arith, c .match .rest) in
     rw (row-past row past) (record { puts = put-none; short = omega arith })
 
@@ -88,25 +79,22 @@ pub answer-row-spec : {M : Type 1} → statement M
 answer-row-spec =
     tie.close
     (tie.spec
-    room-requires
-    slice-aggregate-answer-fill
     answer-fill-requires
     answer-test-requires
     answer-show-requires
-    room-requires-2
-    slice-aggregate-answer-first
     answer-first-requires
-    room-requires-3
-    slice-aggregate-answer-next
     answer-next-requires
     same-length
-    returns
     same-length-2
-    returns-2
+    returns
     same-length-3
-    returns-3
+    returns-2
     same-length-4
-    returns-4
+    returns-3
     same-length-5
+    same-length-6
+    returns-4
+    same-length-7
+    same-length-8
     returns-5
     returns-6)

@@ -16,7 +16,8 @@ same-length c = search needs
 returns : tie.Need-returns
 returns c =
     let start = c .before .before .before .before .before .before .before .before in
-    rw (eq-eqb (start .args .said .code) 1 (c .before .before .before .before .if1 .taken)) (room-within 80 (omega arith) (c .before .before .put-refused .ensures))
+    rw (eq-eqb (start .args .said .code) 1 (c .before .before .before .before .if1 .taken))
+    (room-within 80 (omega arith) (c .before .before .put-refused .ensures))
 
 put-field-requires : tie.Need-put-field-requires
 put-field-requires c κs = search needs

@@ -50,7 +50,8 @@ is-field-requires c κs = search needs
 returns : tie.Need-returns Inv-loop μ-loop
 returns c =
     let ended = c .before .before .before in
-    sym (ended .before .loop .inv .1 ∙ first-wrong _ _ (ended .before .loop .inv .0) (named ended ∙ sym (c .before .is-field .ensures) ∙ not-true _ (c .if1 .taken)))
+    sym (ended .before .loop .inv .1 ∙ first-wrong _ _ (ended .before .loop .inv .0)
+    (named ended ∙ sym (c .before .is-field .ensures) ∙ not-true _ (c .if1 .taken)))
 
 returns-2 : tie.Need-returns-2 Inv-loop μ-loop
 returns-2 c =
@@ -58,7 +59,11 @@ returns-2 c =
     let l = ended .before .loop in
     sym
     (l .inv .1
-    ∙ rw (split-last 32 (ended .before .before .before .args .line .now) _ _ (l .inv .0) (ended .end-of .ensures) (c .if2 .taken), named ended ∙ sym (c .before .before .is-field .ensures) ∙ not-false _ (c .before .if1 .left)))
+    ∙ rw (
+      split-last 32 (ended .before .before .before .args .line .now) _ _ (l .inv .0) (ended .end-of .ensures) (c .if2 .taken),
+      named ended ∙ sym
+          (c .before .before .is-field .ensures) ∙ not-false _ (c .before .if1 .left),
+    ))
 
 add-start : tie.Need-add-start Inv-loop μ-loop
 add-start c = record { fits = omega (arith, ended-below (c .before .before .before .before)) }
@@ -73,7 +78,11 @@ loop-again c =
     let more : ended .end-of .result < length (ended .before .before .before .args .line .now) = omega (arith, ended-below ended, c .if2 .left) in (
       omega arith,
       l .inv .1
-          ∙ rw (split-more 32 (ended .before .before .before .args .line .now) _ _ (l .inv .0) (ended .end-of .ensures) more, named ended ∙ sym (c .before .before .is-field .ensures) ∙ not-false _ (c .before .if1 .left)),
+          ∙ rw (
+            split-more 32 (ended .before .before .before .args .line .now) _ _ (l .inv .0) (ended .end-of .ensures) more,
+            named ended ∙ sym
+                (c .before .before .is-field .ensures) ∙ not-false _ (c .before .if1 .left),
+          ),
     )
 
 pub are-fields-spec : {M : Type 1} → statement M

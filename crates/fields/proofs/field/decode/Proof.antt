@@ -54,10 +54,19 @@ add-bytes c = record { fits = omega (arith, c .before .before .digit-of .ensures
 slice-write-bytes : tie.Need-slice-write-bytes Inv-loop μ-loop
 slice-write-bytes c =
     let l = c .before .before .before .before .before .loop .inv in
-    omega (arith, l .below, l .size, c .before .before .before .before .loop-test .taken, c .before .before .before .before .before .before .before .before .pre .1)
+    omega (
+      arith,
+      l .below,
+      l .size,
+      c .before .before .before .before .loop-test .taken,
+      c .before .before .before .before .before .before .before .before .pre .1,
+    )
 
 add-next : tie.Need-add-next Inv-loop μ-loop
-add-next c = record { fits = omega (arith, c .before .before .before .before .before .loop .inv .below, c .before .before .before .before .loop-test .taken, c .before .before .before .before .before .before .before .before .pre .1) }
+add-next c =
+    let turn = c .before .before .before .before in
+    let start = turn .before .before .before .before in
+    record { fits = omega (arith, turn .before .loop .inv .below, turn .loop-test .taken, start .pre .1) }
 
 add-i : tie.Need-add-i Inv-loop μ-loop
 add-i c = record { fits = omega (arith, c .before .before .before .before .loop-test .taken) }
@@ -67,7 +76,8 @@ loop-less c = omega (arith, c .before .before .before .before .loop-test .taken)
 
 loop-again : tie.Need-loop-again Inv-loop μ-loop
 loop-again c =
-    rw (c .before .before .digit-of .ensures, c .digit-of2 .ensures) (decoding-next (c .before .before .before .before .before .loop .inv) (c .before .before .before .before .loop-test .taken))
+    rw (c .before .before .digit-of .ensures, c .digit-of2 .ensures)
+    (decoding-next (c .before .before .before .before .before .loop .inv) (c .before .before .before .before .loop-test .taken))
 
 same-length : tie.Need-same-length Inv-loop μ-loop
 same-length c = c .before .loop .inv .size

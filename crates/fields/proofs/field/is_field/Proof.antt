@@ -51,7 +51,8 @@ returns-5 c =
     let l = c .before .before .before .before in
     sym
     (whole-field l
-    ∙ digit-wrong (l .before .before .before .before .before .args .field .now) (l .loop .i) (c .before .before .before .loop-test .taken) (l .loop .inv .1) (omega (arith, c .if5 .taken, c .before .digit-of .ensures)))
+    ∙ digit-wrong (l .before .before .before .before .before .args .field .now) (l .loop .i) (c .before .before .before .loop-test .taken) (l .loop .inv .1)
+    (omega (arith, c .if5 .taken, c .before .digit-of .ensures)))
 
 add-i : tie.Need-add-i Inv-loop μ-loop
 add-i c = search needs
@@ -61,8 +62,11 @@ loop-less c = search needs
 
 loop-again : tie.Need-loop-again Inv-loop μ-loop
 loop-again c =
-    let l = c .before .before .before .before in
-    (search needs, digit-right (l .before .before .before .before .before .args .field .now) (l .loop .i) (c .before .before .before .loop-test .taken) (l .loop .inv .1) (omega (arith, c .if5 .left, c .before .digit-of .ensures)))
+    let l = c .before .before .before .before in (
+      search needs,
+      digit-right (l .before .before .before .before .before .args .field .now) (l .loop .i) (c .before .before .before .loop-test .taken)
+          (l .loop .inv .1) (omega (arith, c .if5 .left, c .before .digit-of .ensures)),
+    )
 
 returns-6 : tie.Need-returns-6 Inv-loop μ-loop
 returns-6 c =

@@ -31,7 +31,8 @@ returns c =
     next-at (start .args .maker .now) (start .args .depot .now) (start .args .sheet .now) (start .args .kit .now) (start .pre .0)
     (next .result) (next .last .1 .1 .1 .1 .0) (c .is-list .result) (c .is-list .ensures) (start .args .kit .now) (start .pre .1 .1)
     (subst
-    (λ (given : List ℕ). NextDoes (start .args .maker .now) (start .args .depot .now) (start .args .sheet .now) given (start .args .kit .now) (next .result) (next .last .1 .1 .1 .1 .0))
+    (λ (given : List ℕ). NextDoes (start .args .maker .now) (start .args .depot .now) (start .args .sheet .now) given (start .args .kit .now) (next .result)
+    (next .last .1 .1 .1 .1 .0))
     (c .before .before .before .before .before .before .before .before .store .ensures)
     (next .ensures))
 

@@ -18,7 +18,7 @@ same-length c = search needs
 
 returns : tie.Need-returns
 unfolding refusedLine
-returns c = 
+returns c =
     let line-feed = c .before .before in
     let words = line-feed .before .before .before .before in
     room-then (words .put-refused .ensures) (room-of 1 (line-feed .put-byte .ensures) (omega arith))

@@ -66,7 +66,8 @@ same-length c = search needs
 
 returns : tie.Need-returns
 returns c =
-    let start = c .before .before .before .before .before .before .before .before .before .before .before .before .before .before .before .before .before .before in
+    let halfway = c .before .before .before .before .before .before .before .before .before in
+    let start = halfway .before .before .before .before .before .before .before .before .before in
     let puts = c .before .before .before .before .before .put-listing .ensures in
     let whole = room-front {bytes = listingOf (start .args .maker .now) (start .args .depot .now) (start .args .sheet .now)} (start .pre) puts in
     ((whole .0, whole .1), (whole .2, puts .puts))

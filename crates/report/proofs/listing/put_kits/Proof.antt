@@ -36,22 +36,32 @@ put-end-requires c κs =
     omega (arith, start .pre .1 .1, so .room, so .few, showing-length so)
 
 same-length : tie.Need-same-length Inv-loop μ-loop
-same-length c = c .before .before .before .before .before .before .loop .inv .2 ∙ sym (c .before .before .before .before .before .before .before .before .before .before .before .before .before .before .before .before .before .pre .1 .0)
+same-length c = c .before .before .before .before .before .before .loop .inv .2 ∙ sym
+    (c .before .before .before .before .before .before .before .before .before .before .before .before .before .before .before .before .before .pre .1 .0)
 
 same-length-2 : tie.Need-same-length-2 Inv-loop μ-loop
-same-length-2 c = c .before .before .before .before .before .before .loop .inv .1 ∙ sym (c .before .before .before .before .before .before .before .before .before .before .before .before .before .before .before .before .before .pre .0 .size)
+same-length-2 c = c .before .before .before .before .before .before .loop .inv .1 ∙ sym
+    (c .before .before .before .before .before .before .before .before .before .before .before .before .before .before .before .before .before .pre .0 .size)
 
 same-length-3 : tie.Need-same-length-3 Inv-loop μ-loop
 same-length-3 c = room-length (c .before .before .put-end .ensures) ∙ showing-length (c .before .before .before .before .before .before .loop .inv .0)
 
 returns : tie.Need-returns Inv-loop μ-loop
-returns c = showing-end (c .before .before .before .before .before .before .loop .inv .0) (not-true _ (c .before .before .before .before .if1 .taken)) (c .before .before .put-end .ensures)
+returns c = showing-end (c .before .before .before .before .before .before .loop .inv .0) (not-true _ (c .before .before .before .before .if1 .taken))
+    (c .before .before .put-end .ensures)
 
 put-list-requires : tie.Need-put-list-requires Inv-loop μ-loop
 put-list-requires c κs =
     let start = c .before .before .before .before .before .before .before .before .before .before .before .before .before .before .before in
     let so = c .before .before .before .before .loop .inv in (
-      omega (arith, start .pre .1 .1, passed-boxes (start .args .maker .now) (start .args .depot .now) (start .args .sheet .now) (start .pre .0 .passes), so .0 .room, so .1, showing-length (so .0)),
+      omega (
+        arith,
+        start .pre .1 .1,
+        passed-boxes (start .args .maker .now) (start .args .depot .now) (start .args .sheet .now) (start .pre .0 .passes),
+        so .0 .room,
+        so .1,
+        showing-length (so .0),
+      ),
       showing-digits (start .args .maker .now) (start .args .depot .now) (start .args .sheet .now) (so .0) (not-false _ (c .before .before .if1 .left)),
     )
 
@@ -60,10 +70,15 @@ add-k c = omega arith
 
 next-kit-requires : tie.Need-next-kit-requires Inv-loop μ-loop
 next-kit-requires c κs =
-    let start = c .before .before .before .before .before .before .before .before .before .before .before .before .before .before .before .before .before .before .before .before in
+    let halfway = c .before .before .before .before .before .before .before .before .before .before in
+    let start = halfway .before .before .before .before .before .before .before .before .before .before in
     let so = c .before .before .before .before .before .before .before .before .before .loop .inv in (
       record { passes = start .pre .0 .passes; size = so .1 },
-      (so .2, showing-full (start .args .maker .now) (start .args .depot .now) (start .args .sheet .now) (so .0) (not-false _ (c .before .before .before .before .before .before .before .if1 .left))),
+      (
+        so .2,
+        showing-full (start .args .maker .now) (start .args .depot .now) (start .args .sheet .now) (so .0)
+            (not-false _ (c .before .before .before .before .before .before .before .if1 .left)),
+      ),
     )
 
 loop-less : tie.Need-loop-less Inv-loop μ-loop
@@ -71,10 +86,14 @@ loop-less c = omega arith
 
 loop-again : tie.Need-loop-again Inv-loop μ-loop
 loop-again c =
-    let start = c .before .before .before .before .before .before .before .before .before .before .before .before .before .before .before .before .before .before .before .before .before .before .before .before .before in
+    let halfway = c .before .before .before .before .before .before .before .before .before .before .before .before in
+    let start = halfway .before .before .before .before .before .before .before .before .before .before .before .before .before in
     let so = c .before .before .before .before .before .before .before .before .before .before .before .before .before .before .loop .inv in (
-      showing-next (start .args .maker .now) (start .args .depot .now) (start .args .sheet .now) (so .0) (not-false _ (c .before .before .before .before .before .before .before .before .before .before .before .before .if1 .left))
-          (passed-boxes (start .args .maker .now) (start .args .depot .now) (start .args .sheet .now) (start .pre .0 .passes)) (omega arith) (c .before .before .before .before .before .before .before .before .before .put-list .ensures) (c .before .before .before .before .next-kit .ensures),
+      showing-next (start .args .maker .now) (start .args .depot .now) (start .args .sheet .now) (so .0)
+          (not-false _ (c .before .before .before .before .before .before .before .before .before .before .before .before .if1 .left))
+          (passed-boxes (start .args .maker .now) (start .args .depot .now) (start .args .sheet .now) (start .pre .0 .passes)) (omega arith)
+          (c .before .before .before .before .before .before .before .before .before .put-list .ensures)
+          (c .before .before .before .before .next-kit .ensures),
       c .before .before .before .before .next-kit .kept .1 .1 .1 .1 .0 ∙ so .1,
       c .before .before .before .before .next-kit .kept .1 .1 .1 .0 ∙ so .2,
     )
@@ -86,16 +105,19 @@ put-end-requires-2 c κs =
     omega (arith, start .pre .1 .1, so .room, so .few, showing-length so)
 
 same-length-4 : tie.Need-same-length-4 Inv-loop μ-loop
-same-length-4 c = c .before .before .before .before .before .before .loop .inv .2 ∙ sym (c .before .before .before .before .before .before .before .before .before .before .before .before .before .before .before .before .before .pre .1 .0)
+same-length-4 c = c .before .before .before .before .before .before .loop .inv .2 ∙ sym
+    (c .before .before .before .before .before .before .before .before .before .before .before .before .before .before .before .before .before .pre .1 .0)
 
 same-length-5 : tie.Need-same-length-5 Inv-loop μ-loop
-same-length-5 c = c .before .before .before .before .before .before .loop .inv .1 ∙ sym (c .before .before .before .before .before .before .before .before .before .before .before .before .before .before .before .before .before .pre .0 .size)
+same-length-5 c = c .before .before .before .before .before .before .loop .inv .1 ∙ sym
+    (c .before .before .before .before .before .before .before .before .before .before .before .before .before .before .before .before .before .pre .0 .size)
 
 same-length-6 : tie.Need-same-length-6 Inv-loop μ-loop
 same-length-6 c = room-length (c .before .before .put-end2 .ensures) ∙ showing-length (c .before .before .before .before .before .before .loop .inv .0)
 
 returns-2 : tie.Need-returns-2 Inv-loop μ-loop
-returns-2 c = showing-end (c .before .before .before .before .before .before .loop .inv .0) (not-true _ (c .before .before .before .before .if2 .taken)) (c .before .before .put-end2 .ensures)
+returns-2 c = showing-end (c .before .before .before .before .before .before .loop .inv .0) (not-true _ (c .before .before .before .before .if2 .taken))
+    (c .before .before .put-end2 .ensures)
 
 put-more-requires : tie.Need-put-more-requires Inv-loop μ-loop
 put-more-requires c κs =
@@ -104,10 +126,12 @@ put-more-requires c κs =
     omega (arith, start .pre .1 .1, so .room, so .few, showing-length so)
 
 same-length-7 : tie.Need-same-length-7 Inv-loop μ-loop
-same-length-7 c = c .before .before .before .before .before .before .loop .inv .2 ∙ sym (c .before .before .before .before .before .before .before .before .before .before .before .before .before .before .before .before .before .pre .1 .0)
+same-length-7 c = c .before .before .before .before .before .before .loop .inv .2 ∙ sym
+    (c .before .before .before .before .before .before .before .before .before .before .before .before .before .before .before .before .before .pre .1 .0)
 
 same-length-8 : tie.Need-same-length-8 Inv-loop μ-loop
-same-length-8 c = c .before .before .before .before .before .before .loop .inv .1 ∙ sym (c .before .before .before .before .before .before .before .before .before .before .before .before .before .before .before .before .before .pre .0 .size)
+same-length-8 c = c .before .before .before .before .before .before .loop .inv .1 ∙ sym
+    (c .before .before .before .before .before .before .before .before .before .before .before .before .before .before .before .before .before .pre .0 .size)
 
 same-length-9 : tie.Need-same-length-9 Inv-loop μ-loop
 same-length-9 c = put-length (c .before .before .put-more .ensures) ∙ showing-length (c .before .before .before .before .before .before .loop .inv .0)
@@ -115,7 +139,8 @@ same-length-9 c = put-length (c .before .before .put-more .ensures) ∙ showing-
 returns-3 : tie.Need-returns-3 Inv-loop μ-loop
 returns-3 c =
     let start = c .before .before .before .before .before .before .before .before .before .before .before .before .before .before .before .before .before in
-    showing-more (start .args .maker .now) (start .args .depot .now) (start .args .sheet .now) (c .before .before .before .before .before .before .loop .inv .0) (not-false _ (c .before .before .before .before .if2 .left)) (omega arith)
+    showing-more (start .args .maker .now) (start .args .depot .now) (start .args .sheet .now)
+    (c .before .before .before .before .before .before .loop .inv .0) (not-false _ (c .before .before .before .before .if2 .left)) (omega arith)
     (c .before .before .put-more .ensures)
 
 pub put-kits-spec : {M : Type 1} → statement M

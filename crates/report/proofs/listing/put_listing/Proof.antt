@@ -61,7 +61,7 @@ same-length-2 : tie.Need-same-length-2
 same-length-2 c = search needs
 
 returns : tie.Need-returns
-returns c = 
+returns c =
     let put = c .before .before in
     let said = refused-said (put .before .before) in
     let asked = fill-of (put .before .before .before .before) in
@@ -81,7 +81,7 @@ put-header-requires : tie.Need-put-header-requires
 put-header-requires c κs = search needs
 
 put-kits-requires : tie.Need-put-kits-requires
-put-kits-requires c κs = 
+put-kits-requires c κs =
     let header = c .before .before .before .before .before in
     let filled = header .before .before .before .before .before in
     let asked = fill-of (filled .before .before) in
@@ -108,7 +108,7 @@ same-length-6 : tie.Need-same-length-6
 same-length-6 c = search needs
 
 returns-2 : tie.Need-returns-2
-returns-2 c = 
+returns-2 c =
     let kitted = c .before .before .before .before .before .before in
     let header = kitted .before .before .before .before .before .before in
     let counted = header .before .before in
