@@ -58,7 +58,7 @@ pub fn check_tables<'a>(maker: &'a [u8], depot: &'a [u8], n: usize) -> Form
     ensures { λ r. ⌜ formSays r ≡ judge (tableChecks n (now (maker .entry)) (now (depot .entry))) passed ⌝ }
 {
     if MOST_BOXES < n {
-        return Form::Refused(Refusal::Boxes);
+        return Form::Refused(Refusal::BoxCount);
     }
     if maker.len() % 8 != 0 {
         return Form::Refused(Refusal::MakerLength);

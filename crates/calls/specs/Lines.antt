@@ -7,6 +7,7 @@ use lib.Dec.{ltb, eqb}
 use lib.ListN.{length, getD, drop}
 use Rattle.lemmas.specs.Lists.{all}
 use Rattle.text.specs.Spelling.{ascii}
+use Rattle.fields.specs.Cuts.{longest}
 use Rattle.fields.specs.Fields.{fieldsOf, isField, is, part}
 use Rattle.calls.specs.Words.{errorFor}
 use Rattle.calls.specs.Rows.{Row, rows}
@@ -26,7 +27,7 @@ answerBy (r ∷ rs) w fs = cond (is w (r .word)) (answerIn r fs) (answerBy rs w 
 -- the answer to a line of some characters: too long, or by its word and the fields after it
 unfoldable pub answerOf : List ℕ → List ℕ
 answerOf line =
-    cond (ltb 200000 (length line)) (errorFor (ascii "long")) (answerBy rows (getD (fieldsOf line) 0 []) (drop 1 (fieldsOf line)))
+    cond (ltb longest (length line)) (errorFor (ascii "long")) (answerBy rows (getD (fieldsOf line) 0 []) (drop 1 (fieldsOf line)))
 
 -- an empty line and a line that begins with # (35) are passed over; any other answer is ended by a line feed (10)
 unfoldable pub replyTo : List ℕ → List ℕ

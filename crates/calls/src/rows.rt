@@ -2,6 +2,7 @@
 ghost use mathlib.Core.Path.{_≡_};
 ghost use Prim.Native.Nat.{_+_, _≤_, _<_};
 ghost use lib.ListN.{length, getD};
+ghost use Rattle.fields.specs.Cuts.{longest};
 ghost use Rattle.fields.specs.Ends.{RightFields};
 ghost use Rattle.calls.specs.Room.{InParts, Rooms, Answered, RowAnswered};
 ghost use Rattle.calls.specs.Rows.{rows, rowAt, rowOf};
@@ -100,7 +101,7 @@ fn answer_small(row: usize, line: &[u8], from: usize, text: &mut [u8], at: usize
 
 fn answer_large(row: usize, line: &[u8], from: usize, text: &mut [u8], at: usize) -> usize
     requires { ⌜ RightFields (now line) from ⌝ }
-    requires { ⌜ (length (now line) ≤ 200000) × (at + 100 + length (now line) ≤ length (now text)) ⌝ }
+    requires { ⌜ (length (now line) ≤ longest) × (at + 100 + length (now line) ≤ length (now text)) ⌝ }
     ensures { λ r. ⌜ RowAnswered row (now (line .entry)) from (now (text .entry)) at (now (text .exit)) r ⌝ }
 {
     let mut bytes = large_room();
@@ -112,7 +113,7 @@ fn answer_large(row: usize, line: &[u8], from: usize, text: &mut [u8], at: usize
 // Puts the answer to the fields. The rooms of nearly all lines are small, and take little time to make.
 pub fn answer_fields(row: usize, line: &[u8], from: usize, text: &mut [u8], at: usize) -> usize
     requires { ⌜ RightFields (now line) from ⌝ }
-    requires { ⌜ (length (now line) ≤ 200000) × (at + 100 + length (now line) ≤ length (now text)) ⌝ }
+    requires { ⌜ (length (now line) ≤ longest) × (at + 100 + length (now line) ≤ length (now text)) ⌝ }
     ensures { λ r. ⌜ RowAnswered row (now (line .entry)) from (now (text .entry)) at (now (text .exit)) r ⌝ }
 {
     if line.len() <= 2000 {

@@ -21,26 +21,26 @@ use Rattle.fields.proofs.Splitting.{end-below, piece-length}
 use Rattle.fields.proofs.Pieces.{fieldsFrom, fields-some, fields-none, fields-next, bytes-half, piece}
 
 -- the bytes that fields give, one after the other
-abbrev pub bytesOf : List (List ℕ) → List ℕ
-bytesOf fs = spelt bytesIn fs
+abbrev pub fieldsBytes : List (List ℕ) → List ℕ
+fieldsBytes fs = spelt bytesIn fs
 
-bytes-append : (fs gs : List (List ℕ)) → bytesOf (fs ++ gs) ≡ bytesOf fs ++ bytesOf gs
+bytes-append : (fs gs : List (List ℕ)) → fieldsBytes (fs ++ gs) ≡ fieldsBytes fs ++ fieldsBytes gs
 bytes-append [] gs = refl
 bytes-append (f ∷ fs) gs =
-    ap (λ (x : List ℕ). bytesIn f ++ x) (bytes-append fs gs) ∙ sym (append-assoc (bytesIn f) (bytesOf fs) (bytesOf gs))
+    ap (λ (x : List ℕ). bytesIn f ++ x) (bytes-append fs gs) ∙ sym (append-assoc (bytesIn f) (fieldsBytes fs) (fieldsBytes gs))
 
 -- where part k starts
 unfoldable pub endOf : List (List ℕ) → ℕ → ℕ
-endOf fs k = length (bytesOf (take k fs))
+endOf fs k = length (fieldsBytes (take k fs))
 
 -- part k stands between those before it and those after it
-bytes-part : (fs : List (List ℕ)) (k : ℕ) → bytesOf fs ≡ bytesOf (take k fs) ++ (part fs k ++ bytesOf (drop (suc k) fs))
+bytes-part : (fs : List (List ℕ)) (k : ℕ) → fieldsBytes fs ≡ fieldsBytes (take k fs) ++ (part fs k ++ fieldsBytes (drop (suc k) fs))
 bytes-part [] zero = refl
 bytes-part [] (suc k) = refl
 bytes-part (f ∷ fs) zero = refl
 bytes-part (f ∷ fs) (suc k) =
     ap (λ (x : List ℕ). bytesIn f ++ x) (bytes-part fs k)
-    ∙ sym (append-assoc (bytesIn f) (bytesOf (take k fs)) (part fs k ++ bytesOf (drop (suc k) fs)))
+    ∙ sym (append-assoc (bytesIn f) (fieldsBytes (take k fs)) (part fs k ++ fieldsBytes (drop (suc k) fs)))
 
 end-next : (fs : List (List ℕ)) (k : ℕ) → endOf fs (suc k) ≡ endOf fs k + length (part fs k)
 unfolding endOf
@@ -48,20 +48,20 @@ end-next [] zero = refl
 end-next [] (suc k) = refl
 end-next (f ∷ fs) zero = omega (arith, length-append (bytesIn f) [])
 end-next (f ∷ fs) (suc k) =
-    let next : length (bytesOf (take (suc k) fs)) ≡ length (bytesOf (take k fs)) + length (part fs k) = end-next fs k in
+    let next : length (fieldsBytes (take (suc k) fs)) ≡ length (fieldsBytes (take k fs)) + length (part fs k) = end-next fs k in
     omega (
       arith,
-      length-append (bytesIn f) (bytesOf (take (suc k) fs)),
-      length-append (bytesIn f) (bytesOf (take k fs)),
+      length-append (bytesIn f) (fieldsBytes (take (suc k) fs)),
+      length-append (bytesIn f) (fieldsBytes (take k fs)),
     )
 
-end-below-all : (fs : List (List ℕ)) (k : ℕ) → endOf fs k ≤ length (bytesOf fs)
+end-below-all : (fs : List (List ℕ)) (k : ℕ) → endOf fs k ≤ length (fieldsBytes fs)
 unfolding endOf
 end-below-all fs k =
     omega (
       arith,
       ap length (bytes-part fs k),
-      length-append (bytesOf (take k fs)) (part fs k ++ bytesOf (drop (suc k) fs)),
+      length-append (fieldsBytes (take k fs)) (part fs k ++ fieldsBytes (drop (suc k) fs)),
     )
 
 -- what stands at k, and after it
@@ -99,7 +99,7 @@ pub record Taking (line : List ℕ) (fs : List (List ℕ)) (size : ℕ) (bytes e
   pub right : all isField (drop k fs) ≡ true
   pub before : 2 * at ≤ start
   pub half : 2 * at ≤ length line
-  pub front : take at bytes ≡ bytesOf (take k fs)
+  pub front : take at bytes ≡ fieldsBytes (take k fs)
   pub marks : (j : ℕ) → j ≤ k → getD ends j 0 ≡ endOf fs j
 
 module _ {line : List ℕ} {from : ℕ} (h : RightFields line from) where
@@ -147,8 +147,8 @@ module _ {line : List ℕ} {fs : List (List ℕ)} {size : ℕ} {bytes ends : Lis
         right = rw (none-left fs k left);
         before = t .before;
         half = t .half;
-        front = t .front ∙ ap bytesOf (sym (none-taken fs k left));
-        marks = marked at (place ∙ ap (λ (l : List (List ℕ)). length (bytesOf l)) (sym (none-taken fs k left))) more;
+        front = t .front ∙ ap fieldsBytes (sym (none-taken fs k left));
+        marks = marked at (place ∙ ap (λ (l : List (List ℕ)). length (fieldsBytes l)) (sym (none-taken fs k left))) more;
       })
 
   -- the next field
@@ -199,13 +199,13 @@ module _ {line : List ℕ} {fs : List (List ℕ)} {size : ℕ} {bytes ends : Lis
           halved =
               omega (arith, t .before, put .after, bytes-half (fieldAt line start), piece-length 32 line start inside)
 
-          fronted : take next new ≡ bytesOf (take (suc k) fs)
+          fronted : take next new ≡ fieldsBytes (take (suc k) fs)
           fronted =
               put-front (omega (arith, put .after, halved, end-below 32 line start end inside stop, t .same)) put
               ∙ ap (λ (l : List ℕ). l ++ bytesIn (fieldAt line start)) (t .front)
-              ∙ ap (λ (l : List ℕ). bytesOf (take k fs) ++ l) (sym (append-nil (bytesIn (fieldAt line start))))
+              ∙ ap (λ (l : List ℕ). fieldsBytes (take k fs) ++ l) (sym (append-nil (bytesIn (fieldAt line start))))
               ∙ sym (bytes-append (take k fs) (fieldAt line start ∷ []))
-              ∙ ap bytesOf (sym (next-taken fs k left-fields))
+              ∙ ap fieldsBytes (sym (next-taken fs k left-fields))
 
 -- eight are taken: those are all
 module _ {line : List ℕ} {from : ℕ} (h : RightFields line from) {size : ℕ} {bytes ends : List ℕ} {start at : ℕ}
@@ -213,9 +213,9 @@ module _ {line : List ℕ} {from : ℕ} (h : RightFields line from) {size : ℕ}
   fs : List (List ℕ)
   fs = fieldsOf (drop from line)
 
-  whole : take at bytes ≡ bytesOf fs
+  whole : take at bytes ≡ fieldsBytes fs
   unfolding fs
-  whole = t .front ∙ ap bytesOf (take-all 8 (fieldsOf (drop from line)) (h .few))
+  whole = t .front ∙ ap fieldsBytes (take-all 8 (fieldsOf (drop from line)) (h .few))
 
   end-suc : (k : ℕ) → k < 8 → getD ends (k + 1) 0 ≡ getD ends k 0 + length (part fs k)
   unfolding fs
@@ -245,7 +245,7 @@ module _ {line : List ℕ} {from : ℕ} (h : RightFields line from) {size : ℕ}
     where
       at-part : (k : ℕ) → Dec (k < 8) → partIn bytes ends k ≡ part (fieldsOf (drop from line)) k
       at-part k (yes more) =
-          piece bytes (bytesOf (take k fs)) (part fs k) (bytesOf (drop (suc k) fs)) at (getD ends k 0) (getD ends (k + 1) 0)
+          piece bytes (fieldsBytes (take k fs)) (part fs k) (fieldsBytes (drop (suc k) fs)) at (getD ends k 0) (getD ends (k + 1) 0)
           (whole ∙ bytes-part fs k) (t .marks k (omega arith)) (end-suc k more)
       at-part k (no past-all) =
           let past : getD ends (k + 1) 0 ≡ 0 = List·getD-eq-default ends 0 (omega (arith, t .nine)) in

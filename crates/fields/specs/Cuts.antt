@@ -17,6 +17,10 @@ abbrev pub cutAt : (mark : ℕ) → List ℕ → List (List ℕ)
 cutAt mark [] = [] ∷ []
 cutAt mark (c ∷ l) = inFront (eqb c mark) c (cutAt mark l)
 
+-- a line has at most so many characters
+abbrev pub longest : ℕ
+longest = 200000
+
 -- how many characters stand before the first mark
 abbrev pub until : (mark : ℕ) → List ℕ → ℕ
 until mark [] = 0

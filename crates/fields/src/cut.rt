@@ -2,11 +2,11 @@
 ghost use mathlib.Core.Path.{_≡_};
 ghost use Prim.Native.Nat.{_+_, _≤_};
 ghost use lib.ListN.{length, drop};
-ghost use Rattle.fields.specs.Cuts.{cutAt, until};
+ghost use Rattle.fields.specs.Cuts.{longest, cutAt, until};
 
 // How many pieces there are: one more than marks.
 pub fn count_pieces(s: &[u8], mark: u8) -> usize
-    requires { ⌜ length (now s) ≤ 200000 ⌝ }
+    requires { ⌜ length (now s) ≤ longest ⌝ }
     ensures { λ r. ⌜ r ≡ length (cutAt mark (now (s .entry))) ⌝ }
 {
     let mut n = 1;

@@ -17,7 +17,7 @@ use Rattle.spec.specs.Records.{Rec, boxAt}
 use Rattle.spec.specs.Facts.{Facts, FactsOf, Closed, Closure, Clash, holds}
 use Rattle.spec.specs.Fits.{isIn, breaks}
 use Rattle.spec.proofs.Least.{Inside, closure-least}
-use Rattle.spec.proofs.Named.{Within}
+use Rattle.spec.proofs.Named.{Within, closure-below}
 use Rattle.spec.proofs.Sound.{rules-sound}
 use Rattle.kits.specs.Order.{AnswerTo}
 use Rattle.kits.specs.Kit.{OpenFrom, Kit, Wanted}
@@ -44,11 +44,6 @@ open-below n s past b state t = at (decLt b n) (holds-byte s b state t)
     at (yes i) e = i
     at (no i) (inl e) = absurd (omega (arith, byte-small state, past b (omega arith)))
     at (no i) (inr e) = absurd (omega (arith, past b (omega arith)))
-
--- and so is every forced one, if the rules conclude only on such boxes
-pub closure-below : (qs : List Rec) (n : ℕ) (s : List ℕ) → Within n qs → OpenFrom n s → Inside (Closure qs s) (λ b state. b < n)
-closure-below qs n s within past =
-    closure-least qs s (λ b state. b < n) (open-below n s past) (λ q m r k premises l c. within q m r k l c)
 
 module _ (qs : List Rec) (n : ℕ) (s l : List ℕ) (past : OpenFrom n s) (kit : Kit qs n s l) where
   kept : Inside (FactsOf s) (TrueOf l)
@@ -106,4 +101,4 @@ module _ (qs : List Rec) (n : ℕ) (s t : List ℕ) (past : OpenFrom n s)
       at (no j) = omega (arith, sheet-t b)
       at (yes j) =
           let fact = byte-holds t b (isIn t b) (settled-byte t b j) in
-          absurd (omega (arith, closure-below qs n s within past b (isIn t b) (derived b (isIn t b) fact)))
+          absurd (omega (arith, closure-below qs n s within (open-below n s past) b (isIn t b) (derived b (isIn t b) fact)))

@@ -11,7 +11,7 @@ use lib.ListN.{getD}
 use Rattle.spec.specs.Refusals.{Refusal as Numbered, numbered, Said, Does}
 use Rattle.spec.proofs.Judge.{does-unique}
 use Rattle.refusals.specs.declared.Refusal.{Refusal}
-use Rattle.refusals.specs.declared.Refusal.the-variants.{Boxes, MakerLength, DepotLength, RecordCount, BadRecord, SheetByte, GivenLength}
+use Rattle.refusals.specs.declared.Refusal.the-variants.{BoxCount, MakerLength, DepotLength, RecordCount, BadRecord, SheetByte, GivenLength}
 use Rattle.refusals.specs.declared.Refusal.the-variants.{OutLength, ListByte}
 use Rattle.refusals.specs.Refusing.{refusalOf}
 
@@ -19,7 +19,7 @@ abbrev pub numberOf : Numbered → ℕ
 numberOf (numbered number place) = number
 
 pub form-number : (why : Refusal) → numberOf (refusalOf why) < 7
-form-number Boxes = omega arith
+form-number BoxCount = omega arith
 form-number MakerLength = omega arith
 form-number DepotLength = omega arith
 form-number RecordCount = omega arith
@@ -33,20 +33,20 @@ form-number (ListByte box) = omega arith
 unfoldable pub refusalFor : Numbered → Refusal
 refusalFor (numbered number place) =
     getD
-    (Boxes
-    ∷ Boxes
-    ∷ getD (MakerLength ∷ DepotLength ∷ RecordCount ∷ []) place Boxes
+    (BoxCount
+    ∷ BoxCount
+    ∷ getD (MakerLength ∷ DepotLength ∷ RecordCount ∷ []) place BoxCount
     ∷ BadRecord place
     ∷ SheetByte place
-    ∷ getD (GivenLength ∷ OutLength ∷ []) place Boxes
+    ∷ getD (GivenLength ∷ OutLength ∷ []) place BoxCount
     ∷ ListByte place
     ∷ [])
     number
-    Boxes
+    BoxCount
 
 pub refusal-back : (why : Refusal) → refusalFor (refusalOf why) ≡ why
 unfolding refusalFor
-refusal-back Boxes = refl
+refusal-back BoxCount = refl
 refusal-back MakerLength = refl
 refusal-back DepotLength = refl
 refusal-back RecordCount = refl

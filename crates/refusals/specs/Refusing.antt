@@ -2,11 +2,11 @@
 -- Assumes nothing.
 use Rattle.spec.specs.Refusals.{Refusal as Numbered, reason}
 use Rattle.refusals.specs.declared.Refusal.{Refusal}
-use Rattle.refusals.specs.declared.Refusal.the-variants.{Boxes, MakerLength, DepotLength, RecordCount, BadRecord, SheetByte, GivenLength}
+use Rattle.refusals.specs.declared.Refusal.the-variants.{BoxCount, MakerLength, DepotLength, RecordCount, BadRecord, SheetByte, GivenLength}
 use Rattle.refusals.specs.declared.Refusal.the-variants.{OutLength, ListByte}
 
 abbrev pub refusalOf : Refusal → Numbered
-refusalOf Boxes = reason 1 0
+refusalOf BoxCount = reason 1 0
 refusalOf MakerLength = reason 2 0
 refusalOf DepotLength = reason 2 1
 refusalOf RecordCount = reason 2 2

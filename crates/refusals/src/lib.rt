@@ -13,7 +13,7 @@ ghost use Rattle.refusals.specs.Words.{refusalIn, refusedWords};
 use text::put_field;
 
 pub enum Refusal {
-    Boxes,
+    BoxCount,
     MakerLength,
     DepotLength,
     RecordCount,
@@ -63,7 +63,7 @@ pub fn of_refusal(why: Refusal) -> Numbers
     ensures { λ r. ⌜ inOrder r ≡ refusedNumbers (refusalOf why) ⌝ }
 {
     match why {
-        Refusal::Boxes => refused(1, 0),
+        Refusal::BoxCount => refused(1, 0),
         Refusal::MakerLength => refused(2, 0),
         Refusal::DepotLength => refused(2, 1),
         Refusal::RecordCount => refused(2, 2),

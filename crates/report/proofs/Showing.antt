@@ -17,7 +17,7 @@ use Rattle.lemmas.proofs.Reading.{getD-default}
 use Rattle.spec.specs.Kits.{kits, kitsAfter}
 use Rattle.kits.specs.Kit.{IsFull}
 use Rattle.kits.proofs.Runs.{kits-behind, kits-full}
-use Rattle.report.specs.Listing.{listLine, endLine, lastLine, kitLines}
+use Rattle.report.specs.Listing.{listLine, endLine, lastLine, kitLines, listsPage}
 use Rattle.report.specs.Asking.{AtHead}
 use Rattle.report.proofs.Digits.{digits-length}
 
@@ -85,7 +85,7 @@ module _ (maker depot sheet : List ℕ) {old kit new : List ℕ} {start at k : �
 
   -- 64 are put: a 65th exists
   pub showing-more : {last : List ℕ} {next : ℕ} → 64 ≤ k → Put new at (ascii "more\n") last next →
-      PutWithin 16500 old start (kitLines ls) last next
+      PutWithin listsPage old start (kitLines ls) last next
   unfolding kitLines lastLine
   showing-more {last} {next} all put =
       let full : k ≡ 64 = omega (arith, s .few) in
@@ -99,7 +99,7 @@ module _ (maker depot sheet : List ℕ) {old kit new : List ℕ} {start at k : �
 -- none is left
 pub showing-end : {ls : List (List ℕ)} {old kit new last : List ℕ} {start at next k : ℕ} {found : Bool} →
     Showing ls old start kit new at k found → found ≡ false → PutWithin 25 new at (endLine k) last next →
-    PutWithin 16500 old start (kitLines ls) last next
+    PutWithin listsPage old start (kitLines ls) last next
 unfolding kitLines lastLine
 showing-end {ls} {old} {kit} {new} {last} {start} {at} {next} {k} s ended put =
     let none : drop k ls ≡ [] = subst (λ (f : Bool). AtHead (drop k ls) f kit) ended (s .head) in

@@ -14,6 +14,8 @@ use Rattle.spec.specs.Kinds.{Kind, Place, kindOf, placesOf}
 use Rattle.spec.specs.Rules.{Literal, Rule, rulesOf}
 use Rattle.spec.specs.SameRule.{samePlace}
 use Rattle.spec.specs.Records.{Rec, boxAt, boxesOf, noKind, bad}
+use Rattle.spec.specs.Facts.{FactsOf, Closure}
+use Rattle.spec.proofs.Least.{Inside, closure-least}
 use Rattle.spec.proofs.SameRule.{same-place}
 use Rattle.spec.proofs.EveryKind.{kind-all}
 
@@ -74,3 +76,9 @@ within-good = part-good (λ r. r .conclusions) (λ r l c. Memᴰ·append-right (
 
 pub premises-good : (n : ℕ) (qs : List Rec) → Good n qs → PremisesWithin n qs
 premises-good = part-good (λ r. r .premises) (λ r l c. Memᴰ·append-left (r .conclusions) c)
+
+-- where the sheet's facts are of boxes below n, and the rules conclude on such boxes only, every fact that follows is of one
+pub closure-below : (qs : List Rec) (n : ℕ) (s : List ℕ) → Within n qs → Inside (FactsOf s) (λ b state. b < n) →
+    Inside (Closure qs s) (λ b state. b < n)
+closure-below qs n s within below =
+    closure-least qs s (λ b state. b < n) below (λ q m r k premises l c. within q m r k l c)

@@ -6,7 +6,7 @@ use mathlib.Core.List.{List, [], _++_}
 use Prim.Native.Nat.{ℕ, _≤_, _<_}
 use lib.ListN.{length, take, drop}
 use Rattle.text.specs.Spelling.{spelt}
-use Rattle.fields.specs.Cuts.{cutAt, until}
+use Rattle.fields.specs.Cuts.{longest, cutAt, until}
 use Rattle.calls.specs.Lines.{replyTo}
 use Rattle.stream.specs.declared.Reached.{Reached}
 use Rattle.stream.specs.declared.Left.{Left}
@@ -26,7 +26,7 @@ outputIn true input = repliesTo (drop 1 (cutAt 10 input))
 
 -- room for the longest reply
 pub record RoomForLines (text : List ℕ) : Type 0 where
-  pub reply : 200102 ≤ length text
+  pub reply : longest + 102 ≤ length text
 
 -- what is done with the part of an input that is at hand: whatever input is still to come, what is put and what is written for the
 -- rest is all that is written. Where nothing is passed over, the rest is no full line, and not too long
@@ -34,7 +34,7 @@ pub record Advanced (input : List ℕ) (skipping : Bool) (text : List ℕ) (r : 
   pub within : r .from ≤ length input
   pub room : r .at ≤ length text
   pub writes : (more : List ℕ) → outputIn skipping (input ++ more) ≡ take (r .at) text ++ outputIn (r .skipping) (drop (r .from) input ++ more)
-  pub moves : r .from ≡ 0 → (r .at ≡ 0) × (r .skipping ≡ skipping) × (length input ≤ 200000) × (until 10 input ≡ length input)
+  pub moves : r .from ≡ 0 → (r .at ≡ 0) × (r .skipping ≡ skipping) × (length input ≤ longest) × (until 10 input ≡ length input)
 
 -- the input ends: a line without its line feed is answered all the same
 pub record Finished (input text : List ℕ) (at : ℕ) : Type 0 where
@@ -52,5 +52,5 @@ pub record Turned (old : List ℕ) (size : ℕ) (skipping ended : Bool) (new tex
       outputIn skipping (take size old ++ more) ≡ take (r .at) text ++ outputIn (r .skipping) (take (r .size) new ++ more)
   pub goes : r .waits ≡ false → r .size < size
   pub begun : r .waits ≡ true → until 10 (take (r .size) new) ≡ length (take (r .size) new)
-  pub space : r .waits ≡ true → r .size ≤ 200000
+  pub space : r .waits ≡ true → r .size ≤ longest
   pub done : r .waits ≡ true → ended ≡ true → outputIn (r .skipping) (take (r .size) new) ≡ []

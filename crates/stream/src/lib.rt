@@ -4,7 +4,7 @@ ghost use mathlib.Core.Bool.{true, false};
 ghost use mathlib.Core.List.{List};
 ghost use Prim.Native.Nat.{ℕ, _+_, _-_, _≤_, _<_, min};
 ghost use lib.ListN.{length};
-ghost use Rattle.fields.specs.Cuts.{until};
+ghost use Rattle.fields.specs.Cuts.{longest, until};
 ghost use Rattle.stream.specs.Input.{Advanced, Finished, RoomForLines, Turned};
 use crate::front::keep;
 use calls::reply::LINE_FEED;
@@ -15,10 +15,10 @@ use fields::cut::end_of;
 pub mod front;
 
 // A line of more than the longest is cut to one more than that, which is too long all the same.
-const CUT: usize = 200001;
+const CUT: usize = LONGEST + 1;
 
 // The room that a reply may take.
-const REPLY: usize = 200102;
+const REPLY: usize = CUT + 101;
 
 // How far the replies have come: what is left of the input starts at `from`, and they end at `at`. If `skipping`, what is left starts
 // inside a line whose reply is already put.
@@ -39,7 +39,7 @@ pub struct Left {
 
 fn cut_end(from: usize, end: usize) -> usize
     requires { ⌜ from ≤ end ⌝ }
-    ensures { λ r. ⌜ r ≡ from + min 200001 (end - from) ⌝ }
+    ensures { λ r. ⌜ r ≡ from + min (longest + 1) (end - from) ⌝ }
 {
     if CUT < end - from {
         return from + CUT;
@@ -127,7 +127,7 @@ fn advance(input: &[u8], skipping: bool, text: &mut [u8]) -> Reached
 // Puts what is written for the last line, where the input ends without a line feed.
 fn finish(input: &[u8], text: &mut [u8]) -> usize
     requires { ⌜ RoomForLines (now text) ⌝ }
-    requires { ⌜ (length (now input) ≤ 200000) × (until 10 (now input) ≡ length (now input)) ⌝ }
+    requires { ⌜ (length (now input) ≤ longest) × (until 10 (now input) ≡ length (now input)) ⌝ }
     ensures { λ r. ⌜ Finished (now (input .entry)) (now (text .exit)) r ⌝ }
 {
     reply(input, text, 0)

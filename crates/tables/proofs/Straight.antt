@@ -57,14 +57,14 @@ entry vs zero = none
 entry vs (suc j) = listed vs j
 
 -- what a local holds is within its width
-abbrev pub Within : Option Val → Type 0
-Within none = Unit {0}
-Within (some v) = WT v
+abbrev pub HoldsTyped : Option Val → Type 0
+HoldsTyped none = Unit {0}
+HoldsTyped (some v) = WT v
 
-abbrev pub Good : Store → Type 0
-Good σ = (i : ℕ) → Within (σ i)
+abbrev pub AllTyped : Store → Type 0
+AllTyped σ = (i : ℕ) → HoldsTyped (σ i)
 
-hold-good : (σ : ℕ → Option Val) → Good σ → (i : ℕ) (v : Val) → WT v → Good (hold σ i v)
+hold-good : (σ : ℕ → Option Val) → AllTyped σ → (i : ℕ) (v : Val) → WT v → AllTyped (hold σ i v)
 hold-good σ g zero v w zero = w
 hold-good σ g zero v w (suc j) = g (suc j)
 hold-good σ g (suc i) v w zero = g zero
@@ -243,24 +243,24 @@ module _ {M : Type 1} (𝓤 : URA M) (H : Heap 𝓤) (A : Atoms 𝓤) (W : Given
   module _ (τs : List Ty) (σ : ℕ → Option Val) where
     -- what is read of the code, whatever the blocks and R are; and a value within its width
     abbrev OpdIs : Operand → Val → Type 2
-    OpdIs x v = ((bs : ℕ → ℕ) (R : SProp 𝓤) → Opd (Go {0}) W (Cx τs bs σ R) (env 𝓤 H τs bs) x v) × (Good σ → WT v)
+    OpdIs x v = ((bs : ℕ → ℕ) (R : SProp 𝓤) → Opd (Go {0}) W (Cx τs bs σ R) (env 𝓤 H τs bs) x v) × (AllTyped σ → WT v)
 
     abbrev OpdsAre : List Operand → List Val → Type 2
-    OpdsAre xs vs = ((bs : ℕ → ℕ) (R : SProp 𝓤) → Opds (Go {0}) W (Cx τs bs σ R) (env 𝓤 H τs bs) xs vs) × (Good σ → WTs (ofList vs))
+    OpdsAre xs vs = ((bs : ℕ → ℕ) (R : SProp 𝓤) → Opds (Go {0}) W (Cx τs bs σ R) (env 𝓤 H τs bs) xs vs) × (AllTyped σ → WTs (ofList vs))
 
     abbrev RvIs : RValue → Val → Type 2
-    RvIs r v = ((bs : ℕ → ℕ) (R : SProp 𝓤) → Rv (Go {0}) W (Cx τs bs σ R) (env 𝓤 H τs bs) r v) × (Good σ → WT v)
+    RvIs r v = ((bs : ℕ → ℕ) (R : SProp 𝓤) → Rv (Go {0}) W (Cx τs bs σ R) (env 𝓤 H τs bs) r v) × (AllTyped σ → WT v)
 
     module _ (i : ℕ) (τ : Ty) (l : Lives τs i τ) (v : Val) (e : σ i ≡ some v) where
       pub whole-is : OpdIs (copy (place i [])) v
-      whole-is = (λ bs R. load ! (finds l bs σ R (stop !)) (reads l bs σ R v e (look ! 0 refl)), λ g. subst Within e (g i))
+      whole-is = (λ bs R. load ! (finds l bs σ R (stop !)) (reads l bs σ R v e (look ! 0 refl)), λ g. subst HoldsTyped e (g i))
 
       module _ (k : ℕ) (u : Val) (p : FieldAt τ k v u) where
         part-read : (bs : ℕ → ℕ) (R : SProp 𝓤) → Reads (Go {0}) W (Cx τs bs σ R) (p .ty) (bs i) (zero + p .off) u
         part-read bs R = reads l bs σ R v e (p .read fullShare (bs i) zero (‵ (Less τs bs σ i) ∷ raw R ∷ []))
 
         pub part-is : OpdIs (copy (place i (field k ∷ []))) u
-        part-is = (λ bs R. load ! (finds l bs σ R (fld ! (p .is) (stop !))) (part-read bs R), λ g. p .wt (subst Within e (g i)))
+        part-is = (λ bs R. load ! (finds l bs σ R (fld ! (p .is) (stop !))) (part-read bs R), λ g. p .wt (subst HoldsTyped e (g i)))
 
         -- the address behind the reference that the field is
         pub lent-is : (τ′ : Ty) (b o : ℕ) → u ≡ vptr b o → RvIs (addrOf (place i (field k ∷ deref τ′ ∷ []))) (vptr b o)
@@ -337,7 +337,7 @@ module _ {M : Type 1} (𝓤 : URA M) (H : Heap 𝓤) (A : Atoms 𝓤) (W : Given
     -- where the call of n with us runs, so does the body
     abbrev pub Runs : (ℕ → Option Val) → Body → Name → List Val → Type 2
     Runs σ b n us = (bs : ℕ → ℕ) (C : Calls 𝓤 H) (Λ : Loops 𝓤 H) → FmC 𝓤 H (W .laws) C → (P : SProp 𝓤) (Q K : Val → SProp 𝓤) → ent 𝓤 P (C n us Q)
-        → ((u : Val) → ent 𝓤 (Q u) (H .⇛ (guard 𝓤 (Fit u) (K u)))) → Good σ
+        → ((u : Val) → ent 𝓤 (Q u) (H .⇛ (guard 𝓤 (Fit u) (K u)))) → AllTyped σ
         → Seq (Go {0}) W (Cx (τ₀ ∷ τs) bs σ P) (runs C Λ (env 𝓤 H (τ₀ ∷ τs) bs) b (atRet (env 𝓤 H (τ₀ ∷ τs) bs) K))
 
     pub assign-runs : (σ : ℕ → Option Val) (j : ℕ) (r : RValue) (rest : Body) (n : Name) (us : List Val) (τ : Ty) (v : Val) → Lives (τ₀ ∷ τs) j τ

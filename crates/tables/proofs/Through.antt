@@ -38,7 +38,7 @@ use denote.Steps.{said, peeks, nothing}
 use denote.Triple.Entry.{Args, Res, alive}
 use denote.Triple.Statement.{Contract, Triple}
 use denote.Triple.Spec.{Spec, tripleOf}
-use Rattle.tables.proofs.Straight.{entry, listed, Own, Within, Good, env, Called, hands}
+use Rattle.tables.proofs.Straight.{entry, listed, Own, HoldsTyped, AllTyped, env, Called, hands}
 
 abbrev tys : List Local → List Ty
 tys [] = []
@@ -61,11 +61,11 @@ wide [] (v ∷ vs) t = absurd t
 wide (τ ∷ τs) [] t = absurd t
 wide (τ ∷ τs) (v ∷ vs) t = (t .0 .1, wide τs vs (t .1))
 
-entry-good : (vs : List Val) → Wide vs → Good (entry vs)
+entry-good : (vs : List Val) → Wide vs → AllTyped (entry vs)
 entry-good vs w zero = tt
 entry-good vs w (suc j) = listed-good vs w j
   where
-    listed-good : (us : List Val) → Wide us → (i : ℕ) → Within (listed us i)
+    listed-good : (us : List Val) → Wide us → (i : ℕ) → HoldsTyped (listed us i)
     listed-good [] w i = tt
     listed-good (u ∷ us) w zero = w .0
     listed-good (u ∷ us) w (suc i) = listed-good us (w .1) i

@@ -13,18 +13,13 @@ use lib.Seq.{length-take-le, getD-take}
 use Rattle.spec.specs.Records.{Rec}
 use Rattle.spec.specs.Facts.{Closure, Clash, holds}
 use Rattle.spec.specs.Rounds.{closed}
-use Rattle.spec.proofs.Least.{closure-least, closure-mono}
-use Rattle.spec.proofs.Named.{Within, Good, within-good}
+use Rattle.spec.proofs.Least.{closure-mono}
+use Rattle.spec.proofs.Named.{Good, within-good, closure-below}
 use Rattle.spec.proofs.Codes.{holds-below}
 use Rattle.spec.proofs.Closed.{closed-unique}
 use Rattle.theory.specs.Steps.{IsSheet, Stable, Grown, Loaded}
 use Rattle.theory.proofs.States.{sheet-codes, holds-same, open-none, sheet-single}
 use Rattle.theory.proofs.Growth.{grown-rest}
-
--- facts follow only of boxes on the sheet
-pub closure-below : (qs : List Rec) (s : List ℕ) → Within (length s) qs → (b : ℕ) (state : Bool) → Closure qs s b state → b < length s
-closure-below qs s within =
-    closure-least qs s (λ b state. b < length s) (holds-below s) (λ q m r k premises l c. within q m r k l c)
 
 module _ {sheet cells : List ℕ} (loaded : Loaded sheet cells) where
   pub loaded-sheet : IsSheet sheet → IsSheet cells
@@ -62,7 +57,7 @@ module _ {sheet cells : List ℕ} (loaded : Loaded sheet cells) where
       loaded-past b past =
           open-none t b (sheet-codes t (grown .sheet))
           (λ state h.
-          omega (arith, closure-below qs sheet (within-good (length sheet) qs good) b state (loaded-rest b state .0 h)))
+          omega (arith, closure-below qs (length sheet) sheet (within-good (length sheet) qs good) (holds-below sheet) b state (loaded-rest b state .0 h)))
 
       size : length (take (length sheet) t) ≡ length sheet
       size = length-take-le (length sheet) t (omega (arith, grown .size, loaded .size))
