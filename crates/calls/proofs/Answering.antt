@@ -15,7 +15,7 @@ use Rattle.fields.specs.Fields.{fieldsOf, isField, part}
 use Rattle.fields.specs.Ends.{RightFields}
 use Rattle.fields.proofs.Splitting.{first-piece, ends-before, next-pieces}
 use Rattle.calls.specs.Words.{errorFor}
-use Rattle.calls.specs.Rows.{rows, rowAt, rowOf}
+use Rattle.calls.specs.Rows.{callRows, rowAt, rowOf}
 use Rattle.calls.specs.Lines.{answerBy, answerIn, answerOf, replyTo}
 use Rattle.calls.proofs.Table.{row-most, row-many, answer-row}
 
@@ -29,19 +29,19 @@ module _ (line : List ℕ) where
     row-is : rowOf (getD (fieldsOf line) 0 []) ≡ k
     row-is = ap rowOf (first-piece 32 line 0 (omega arith) ∙ ap (λ (n : ℕ). take n line) (sym (e ∙ zero-add _))) ∙ sym found
 
-    by-row : answerOf line ≡ answerBy rows (getD (fieldsOf line) 0 []) (drop 1 (fieldsOf line))
+    by-row : answerOf line ≡ answerBy callRows (getD (fieldsOf line) 0 []) (drop 1 (fieldsOf line))
     unfolding answerOf
     by-row = rw (le-ltb _ _ short)
 
-    pub answer-word : k ≡ length rows → answerOf line ≡ errorFor (ascii "word")
-    answer-word none = by-row ∙ answer-row (getD (fieldsOf line) 0 []) (drop 1 (fieldsOf line)) ∙ rw (row-is, eq-eqb k (length rows) none)
+    pub answer-word : k ≡ length callRows → answerOf line ≡ errorFor (ascii "word")
+    answer-word none = by-row ∙ answer-row (getD (fieldsOf line) 0 []) (drop 1 (fieldsOf line)) ∙ rw (row-is, eq-eqb k (length callRows) none)
 
-    module _ (some : k ≡ length rows → ⊥) where
-      pub known : k < length rows
+    module _ (some : k ≡ length callRows → ⊥) where
+      pub known : k < length callRows
       known = omega (arith, found, row-most (take end line))
 
       in-row : answerOf line ≡ answerIn (rowAt k) (drop 1 (fieldsOf line))
-      in-row = by-row ∙ answer-row (getD (fieldsOf line) 0 []) (drop 1 (fieldsOf line)) ∙ rw (row-is, ne-eqb k (length rows) some)
+      in-row = by-row ∙ answer-row (getD (fieldsOf line) 0 []) (drop 1 (fieldsOf line)) ∙ rw (row-is, ne-eqb k (length callRows) some)
 
       pub answer-fields : (length (fieldsOf line) ≡ rowAt k .many + 1 → ⊥) → answerOf line ≡ errorFor (ascii "fields")
       answer-fields other =

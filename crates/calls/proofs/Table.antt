@@ -15,7 +15,7 @@ use Rattle.text.specs.Spelling.{ascii}
 use Rattle.fields.specs.Fields.{is}
 use Rattle.fields.specs.Words.{placeAmong}
 use Rattle.calls.specs.Words.{errorFor}
-use Rattle.calls.specs.Rows.{Row, rows, noRow, rowAt, rowOf}
+use Rattle.calls.specs.Rows.{Row, callRows, noRow, rowAt, rowOf}
 use Rattle.calls.specs.Lines.{answerIn, answerBy}
 
 -- the answer by a row's number
@@ -42,26 +42,26 @@ place-most w (p ∷ ws) = at (sameList eqb w p) (place-most w ws)
     at true h = omega arith
     at false h = omega arith
 
-pub row-most : (w : List ℕ) → rowOf w ≤ length rows
+pub row-most : (w : List ℕ) → rowOf w ≤ length callRows
 unfolding rowOf
-row-most w = place-most w (map (λ r. ascii (r .word)) rows)
+row-most w = place-most w (map (λ r. ascii (r .word)) callRows)
 
 -- the answer by the number of the row
 pub answer-row : (w : List ℕ) (fs : List (List ℕ)) →
-    answerBy rows w fs ≡ cond (eqb (rowOf w) (length rows)) (errorFor (ascii "word")) (answerIn (rowAt (rowOf w)) fs)
+    answerBy callRows w fs ≡ cond (eqb (rowOf w) (length callRows)) (errorFor (ascii "word")) (answerIn (rowAt (rowOf w)) fs)
 unfolding rowOf rowAt
-answer-row w fs = answer-place rows noRow w fs (rowOf w) refl
+answer-row w fs = answer-place callRows noRow w fs (rowOf w) refl
 
 -- behind the last row nothing is answered
-pub row-past : (k : ℕ) → length rows ≤ k → (part : ℕ → List ℕ) → rowAt k .answer part ≡ []
+pub row-past : (k : ℕ) → length callRows ≤ k → (part : ℕ → List ℕ) → rowAt k .answer part ≡ []
 unfolding rowAt
-row-past k h part = rw (List·getD-eq-default rows noRow h)
+row-past k h part = rw (List·getD-eq-default callRows noRow h)
 
 -- every call has some fields, and eight at most
-pub row-many : (k : ℕ) → k < length rows → (1 ≤ rowAt k .many) × (rowAt k .many ≤ 8)
+pub row-many : (k : ℕ) → k < length callRows → (1 ≤ rowAt k .many) × (rowAt k .many ≤ 8)
 unfolding rowAt
 row-many k h =
-    let right = T-true (table-agree (λ j. leb 1 (rowAt j .many) && leb (rowAt j .many) 8) (λ j. true) (length rows) refl k h) in (
+    let right = T-true (table-agree (λ j. leb 1 (rowAt j .many) && leb (rowAt j .many) 8) (λ j. true) (length callRows) refl k h) in (
       leb-true 1 (rowAt k .many) (true-T _ (both-left (leb 1 (rowAt k .many)) (leb (rowAt k .many) 8) right)),
       leb-true (rowAt k .many) 8 (true-T _ (both-right (leb 1 (rowAt k .many)) (leb (rowAt k .many) 8) right)),
     )

@@ -10,7 +10,7 @@ use Rattle.text.specs.Spelling.{ascii}
 use Rattle.fields.specs.Cuts.{longest}
 use Rattle.fields.specs.Fields.{fieldsOf, isField, is, part}
 use Rattle.calls.specs.Words.{errorFor}
-use Rattle.calls.specs.Rows.{Row, rows}
+use Rattle.calls.specs.Rows.{Row, callRows}
 
 -- the answer to a call of this row: the wrong number of fields, wrong digits, in this order; else that of the operation
 abbrev pub answerIn : Row → (fields : List (List ℕ)) → List ℕ
@@ -27,7 +27,7 @@ answerBy (r ∷ rs) w fs = cond (is w (r .word)) (answerIn r fs) (answerBy rs w 
 -- the answer to a line of some characters: too long, or by its word and the fields after it
 unfoldable pub answerOf : List ℕ → List ℕ
 answerOf line =
-    cond (ltb longest (length line)) (errorFor (ascii "long")) (answerBy rows (getD (fieldsOf line) 0 []) (drop 1 (fieldsOf line)))
+    cond (ltb longest (length line)) (errorFor (ascii "long")) (answerBy callRows (getD (fieldsOf line) 0 []) (drop 1 (fieldsOf line)))
 
 -- an empty line and a line that begins with # (35) are passed over; any other answer is ended by a line feed (10)
 unfoldable pub replyTo : List ℕ → List ℕ

@@ -45,8 +45,8 @@ pub record Row : Type 0 where
   pub many : ℕ
   pub answer : (part : ℕ → List ℕ) → List ℕ
 
-abbrev pub rows : List Row
-rows =
+abbrev pub callRows : List Row
+callRows =
     record { word = "fill"; many = 4; answer = fillAnswer }
     ∷ record { word = "test"; many = 3; answer = testAnswer }
     ∷ record { word = "show"; many = 3; answer = showAnswer }
@@ -59,8 +59,8 @@ noRow = record { word = ""; many = 0; answer = λ part. [] }
 
 -- a row by its number
 unfoldable pub rowAt : ℕ → Row
-rowAt k = getD rows k noRow
+rowAt k = getD callRows k noRow
 
 -- the number of the row that has this word; where none has it, how many rows there are
 unfoldable pub rowOf : List ℕ → ℕ
-rowOf w = placeAmong w (map (λ r. ascii (r .word)) rows)
+rowOf w = placeAmong w (map (λ r. ascii (r .word)) callRows)

@@ -5,7 +5,7 @@ ghost use lib.ListN.{length, getD};
 ghost use Rattle.fields.specs.Cuts.{longest};
 ghost use Rattle.fields.specs.Ends.{RightFields};
 ghost use Rattle.calls.specs.Room.{InParts, Rooms, Answered, RowAnswered};
-ghost use Rattle.calls.specs.Rows.{rows, rowAt, rowOf};
+ghost use Rattle.calls.specs.Rows.{callRows, rowAt, rowOf};
 use crate::operations::answer_fill;
 use crate::operations::answer_first;
 use crate::operations::answer_next;
@@ -25,7 +25,7 @@ pub fn row_of(word: &[u8]) -> usize
 }
 
 pub fn many_of(row: usize) -> usize
-    requires { ⌜ row < length rows ⌝ }
+    requires { ⌜ row < length callRows ⌝ }
     ensures { λ r. ⌜ r ≡ rowAt row .many ⌝ }
 {
     MANY[row]

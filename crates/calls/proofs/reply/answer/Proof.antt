@@ -8,7 +8,7 @@ use lib.ListN.{length}
 use lib.Seq.{length-take-le}
 use Rattle.fields.specs.Fields.{fieldsOf}
 use Rattle.fields.proofs.Splitting.{end-below}
-use Rattle.calls.specs.Rows.{rows, rowAt}
+use Rattle.calls.specs.Rows.{callRows, rowAt}
 use Rattle.calls.proofs.Table.{row-many}
 use Rattle.calls.proofs.Answering.{known, answer-long, answer-word, answer-fields, answer-digits, answer-call, after-within, after-right}
 use borrow.Author.Needs.{needs}
@@ -16,7 +16,7 @@ use Rattle.calls.proofs.reply.answer.Statement.{statement}
 use Rattle.calls.proofs.reply.answer.Tie as tie
 
 -- the word's row is one of the table
-row-known : (c : tie.Else2) → c .before .row-of .result < length rows
+row-known : (c : tie.Else2) → c .before .row-of .result < length callRows
 row-known c =
     let word = c .before .before .before in
     known _ (word .before .if1 .left) _ (word .end-of .ensures) _ (c .before .row-of .ensures) (c .if2 .left)

@@ -4,7 +4,7 @@ use Prim.Native.Nat.{_≤_}
 use native.Mathlib.Omega.{arith}
 use lib.ListN.{length}
 use Rattle.text.proofs.Puts.{put-none}
-use Rattle.calls.specs.Rows.{rows, rowAt}
+use Rattle.calls.specs.Rows.{callRows, rowAt}
 use Rattle.calls.proofs.Table.{row-past}
 use borrow.Author.Needs.{needs}
 use Rattle.calls.proofs.rows.answer_row.Statement.{statement}
@@ -72,7 +72,7 @@ returns-5 c = let done = c .before .before .before .before in rw (done .before .
 returns-6 : tie.Need-returns-6
 returns-6 c =
     let row = c .before .before .before .before .before .args .row in
-    let past : length rows ≤ row = omega (arith, c .match .rest) in
+    let past : length callRows ≤ row = omega (arith, c .match .rest) in
     rw (row-past row past) (record { puts = put-none; short = omega arith })
 
 pub answer-row-spec : {M : Type 1} → statement M
