@@ -1,2 +1,6 @@
 pub mod Refusing
 pub mod One
+pub mod Testing
+pub mod Unbroken
+pub mod Filling
+pub mod Two
