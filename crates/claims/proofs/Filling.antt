@@ -16,14 +16,13 @@ use Rattle.spec.proofs.Named.{within-good}
 use Rattle.spec.proofs.Firing.{run-rest}
 use Rattle.spec.proofs.Ends.{factList, run-starts, run-ends}
 use Rattle.spec.proofs.Accepted.{AcceptedSheet, order-accepted}
-use Rattle.theory.specs.Steps.{IsSheet, Grown}
+use Rattle.theory.specs.Steps.{Grown}
 use Rattle.theory.proofs.States.{stateOf, sheet-codes, holds-state, state-holds, open-none, none-open}
-use Rattle.theory.proofs.Growth.{closed-grown}
 use Rattle.theory.proofs.Measure.{grown-kept}
 use Rattle.theory.proofs.Numbered.{rules-good}
 use Rattle.theory.proofs.Filling.{codes-exact, fill-clash, fill-seven, fill-filled}
 use Rattle.claims.specs.Demands.{Derived, SomeClash, IsFilled, FillAgrees}
-use Rattle.claims.proofs.Unbroken.{full-unbroken}
+use Rattle.claims.proofs.Unbroken.{codes-grown, full-unbroken}
 
 -- without a clash the closure's codes are the filled sheet
 module _ (maker depot sheet : List ℕ) (known : AcceptedSheet (length sheet) maker depot sheet)
@@ -32,8 +31,7 @@ module _ (maker depot sheet : List ℕ) (known : AcceptedSheet (length sheet) ma
   codes = closureOf maker depot sheet
 
   grown : Grown (rulesIn maker depot) sheet codes
-  unfolding closureOf
-  grown = closed-grown (rulesIn maker depot) sheet (known .sheet-bytes) none
+  grown = codes-grown maker depot sheet known none
 
   exact : (b : ℕ) (state : Bool) → T (holds codes b state) ↔ Derived maker depot sheet b state
   exact = codes-exact maker depot sheet known

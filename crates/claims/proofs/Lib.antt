@@ -4,3 +4,5 @@ pub mod Testing
 pub mod Unbroken
 pub mod Filling
 pub mod Two
+pub mod Nine
+pub mod Three

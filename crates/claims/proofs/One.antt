@@ -8,12 +8,12 @@ use native.Mathlib.Omega.{arith}
 use lib.ListN.{length}
 use Rattle.spec.specs.Refusals.{Refusal, reason, Said, refused, answered, Check, judge, tableChecks, sheetChecks, orderChecks, nextChecks}
 use Rattle.spec.specs.Refusals.{boxesCheck, makerCheck, depotCheck, countCheck, recordCheck, sheetCheck, givenCheck, outCheck, listCheck}
-use Rattle.spec.specs.Fits.{Verdict, partFor, testChecks, testJudges, testSays, showsPart}
+use Rattle.spec.specs.Fits.{partFor, testChecks, testJudges, testSays, showsPart}
 use Rattle.spec.specs.Fill.{closureOf, boxesFilled, clashCheck, brokenCheck, fillJudges, fillSays}
 use Rattle.spec.specs.Kits.{noneCheck, handedOut, handsOut, kits, kitsAfter, firstSays, nextSays}
 use Rattle.spec.proofs.Judge.{refused-answered}
 use Rattle.spec.proofs.Kept.{fill-kept, first-kept, next-kept}
-use Rattle.claims.specs.Demands.{RefusesBy, emptyPart, DemandOne}
+use Rattle.claims.specs.Demands.{emptyPart, DemandOne}
 use Rattle.claims.proofs.Refusing.{of-form, EachOfForm, each-append, AfterForm, refuses-by}
 
 -- the checks of form have the numbers 1 to 6

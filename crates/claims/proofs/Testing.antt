@@ -8,7 +8,7 @@ use native.Mathlib.Omega.{arith}
 use borrow.Author.Tests.{ltb-false, lt-ltb, le-ltb}
 use lib.Dec.{ltb}
 use Rattle.lemmas.proofs.Lowest.{lowest-none, lowest-at, lowest-below, lowest-found}
-use Rattle.spec.specs.Records.{isRule, recordAt, recordCount}
+use Rattle.spec.specs.Records.{recordAt, recordCount}
 use Rattle.spec.specs.Refusals.{answered, passed, judge}
 use Rattle.spec.specs.Fits.{breaks, isBroken, firstBroken, fits, broken, testChecks, testJudges, testSays}
 use Rattle.spec.proofs.Judge.{judge-passed}

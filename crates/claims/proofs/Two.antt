@@ -11,7 +11,7 @@ use Rattle.spec.proofs.Judge.{judge-left, judge-then}
 use Rattle.kits.specs.Kit.{IsFull}
 use Rattle.kits.proofs.Form.{list-passes}
 use Rattle.kits.proofs.Kits.{kits-in-order}
-use Rattle.claims.specs.Demands.{InForm, KeepsSettled, DemandTwo}
+use Rattle.claims.specs.Demands.{KeepsSettled, DemandTwo}
 use Rattle.claims.proofs.Refusing.{form-passes}
 use Rattle.claims.proofs.Testing.{test-agrees}
 use Rattle.claims.proofs.Filling.{fill-agrees}

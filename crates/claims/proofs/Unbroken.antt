@@ -45,9 +45,9 @@ module _ (maker depot sheet : List ℕ) (known : AcceptedSheet (length sheet) ma
   good : Good (length sheet) (rulesIn maker depot)
   good = rules-good maker depot (known .tables)
 
-  grown : Grown (rulesIn maker depot) sheet codes
+  pub codes-grown : Grown (rulesIn maker depot) sheet codes
   unfolding closureOf
-  grown = closed-grown (rulesIn maker depot) sheet (known .sheet-bytes) none
+  codes-grown = closed-grown (rulesIn maker depot) sheet (known .sheet-bytes) none
 
   -- every rule that can fire has fired
   at-rest : (q : Rec) → List·Memᴰ q (rulesIn maker depot) → Closed (q ∷ []) (FactsOf codes)
@@ -61,13 +61,13 @@ module _ (maker depot sheet : List ℕ) (known : AcceptedSheet (length sheet) ma
   settled e b less = go (ℕ-discrete (getD codes b 2) 2)
     where
       go : Dec (getD codes b 2 ≡ 2) → getD codes b 2 ≤ 1
-      go (yes is) = absurd (none-open codes e b (omega (arith, grown .size)) is)
-      go (no not-open) = omega (arith, grown .sheet b)
+      go (yes is) = absurd (none-open codes e b (omega (arith, codes-grown .size)) is)
+      go (no not-open) = omega (arith, codes-grown .sheet b)
 
   full-true : openCount codes ≡ 0 → EveryRuleTrue maker depot codes
   full-true e =
-      subst (EveryRuleTrue maker depot) (take-all (length sheet) codes (omega (arith, grown .size)))
-      (rest-kit (rulesIn maker depot) (length sheet) codes (settled e) (grown .sheet) good at-rest .fits)
+      subst (EveryRuleTrue maker depot) (take-all (length sheet) codes (omega (arith, codes-grown .size)))
+      (rest-kit (rulesIn maker depot) (length sheet) codes (settled e) (codes-grown .sheet) good at-rest .fits)
 
   pub full-unbroken : openCount codes ≡ 0 → firstBroken maker depot codes < recordCount maker depot → ⊥
   full-unbroken e less = omega (arith, true-unbroken maker depot codes (full-true e))

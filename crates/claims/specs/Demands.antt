@@ -14,7 +14,7 @@ use Rattle.spec.specs.Records.{Rec, isRule, recordAt, recordCount, rulesIn}
 use Rattle.spec.specs.Facts.{Facts, Closed, Closure, Clash}
 use Rattle.spec.specs.Firing.{Fact, Listed, Run}
 use Rattle.spec.specs.Refusals.{Refusal, reason, Said, refused, answered, Check, sheetChecks, orderChecks, nextChecks}
-use Rattle.spec.specs.Fits.{breaks, fits, broken, Part, recordPart, testChecks, testSays, showsPart}
+use Rattle.spec.specs.Fits.{breaks, fits, broken, Part, testChecks, testSays, showsPart}
 use Rattle.spec.specs.Fill.{boxesFilled, fillSays, fillWrites}
 use Rattle.spec.specs.Kits.{before, kits, firstSays, firstWrites, nextSays, nextWrites}
 use Rattle.kits.specs.Kit.{IsFull, Kit}
@@ -150,3 +150,8 @@ pub record DemandThree (maker depot sheet : List ℕ) (lent : ℕ → List ℕ) 
       (l : List ℕ) → Kit (rulesIn maker depot) (length sheet) sheet l → ⊥
   pub next-none : (given out : List ℕ) → nextSays maker depot sheet given out ≡ refused (reason 9 0) →
       (l : List ℕ) → Kit (rulesIn maker depot) (length sheet) sheet l → before given l ≡ false
+  -- First and Next answer 9 where Fill would answer 7
+  pub first-clash : (out : List ℕ) → InForm (orderChecks maker depot sheet out) →
+      fillSays maker depot sheet out ≡ refused (reason 7 0) → firstSays maker depot sheet out ≡ refused (reason 9 0)
+  pub next-clash : (given out : List ℕ) → InForm (nextChecks maker depot sheet given out) →
+      fillSays maker depot sheet out ≡ refused (reason 7 0) → nextSays maker depot sheet given out ≡ refused (reason 9 0)
