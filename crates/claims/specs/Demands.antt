@@ -43,24 +43,27 @@ pub record RefusesBy {A : Type 0} (checks : List Check) (says : Said A) : Type 0
   -- and where none applies there is none
   pub none : InForm checks → (number place : ℕ) → number < 7 → says ≡ refused (reason number place) → ⊥
 
--- a refusal leaves every byte of the buffer that was lent
+-- where this is said as a refusal, what is left in a buffer is what was lent
 abbrev pub Unchanged : {A : Type 0} → Said A → (left lent : List ℕ) → Type 0
 Unchanged says left lent = (why : Refusal) → says ≡ refused why → left ≡ lent
 
+-- the empty part at the start of the maker's table
 abbrev pub emptyPart : Part
 emptyPart = record { depots = false; start = 0; size = 0 }
 
 -- DEMAND 1. Every public operation takes any tables, sheet and lists, and refuses bad ones by a number and a place (Show: by an
 -- empty part). A refusal leaves every buffer lent for writing unchanged. The list `l` is Test's, and the one given to Next.
 pub record DemandOne (maker depot sheet l out : List ℕ) : Type 0 where
-  -- Test, Fill, First and Next, each by its checks
+  -- Test refuses bad tables and a bad list, by 1, 2, 3 and 6
   pub test : RefusesBy (testChecks maker depot l) (testSays maker depot l)
+  -- Fill and First refuse bad tables, a bad sheet and a bad out buffer, by 1 to 5
   pub fill : RefusesBy (orderChecks maker depot sheet out) (fillSays maker depot sheet out)
   pub first : RefusesBy (orderChecks maker depot sheet out) (firstSays maker depot sheet out)
+  -- Next besides a bad given list, by 1 to 6
   pub next : RefusesBy (nextChecks maker depot sheet l out) (nextSays maker depot sheet l out)
-  -- Show, where Test is refused, by the empty part at the start of the maker's table
+  -- where Test refuses, Show gives the empty part at the start of the maker's table
   pub show : (why : Refusal) → testSays maker depot l ≡ refused why → showsPart maker depot l ≡ emptyPart
-  -- and the buffers
+  -- a refusal of Fill, First or Next, by whatever number, leaves every byte of the out buffer as it was
   pub fill-leaves : Unchanged (fillSays maker depot sheet out) (fillWrites maker depot sheet out) out
   pub first-leaves : Unchanged (firstSays maker depot sheet out) (firstWrites maker depot sheet out) out
   pub next-leaves : Unchanged (nextSays maker depot sheet l out) (nextWrites maker depot sheet l out) out
@@ -75,11 +78,12 @@ SomeClash maker depot sheet = (b : ℕ) × Clash (rulesIn maker depot) sheet b
 
 -- a list that is the filled sheet: 0 or 1 for a box with a fact and 2 for the others
 pub record IsFilled (maker depot sheet w : List ℕ) : Type 0 where
+  -- as many boxes as the sheet has
   pub size : length w ≡ length sheet
   -- a box is out exactly when "out" can be derived, and in exactly when "in" can
   pub is-out : (b : ℕ) → (getD w b 2 ≡ 0) ↔ Derived maker depot sheet b false
   pub is-in : (b : ℕ) → (getD w b 2 ≡ 1) ↔ Derived maker depot sheet b true
-  -- all other boxes stay: the open ones for which neither can, and the settled ones
+  -- all other boxes stay: open where neither can, and as it was where it was settled
   pub is-open : (b : ℕ) → (getD w b 2 ≡ 2) ↔ ((Derived maker depot sheet b false → ⊥) × (Derived maker depot sheet b true → ⊥))
   pub kept : (b : ℕ) → (getD sheet b 2 ≡ 2 → ⊥) → getD w b 2 ≡ getD sheet b 2
 
@@ -104,9 +108,12 @@ EveryRuleTrue maker depot l = (q : Rec) → List·Memᴰ q (rulesIn maker depot)
 
 -- record r is a rule and false of the list, and no lower one is
 pub record LowestFalse (maker depot l : List ℕ) (r : ℕ) : Type 0 where
+  -- it is one of the records
   pub below : r < recordCount maker depot
+  -- a rule, and its truth table is false of the list
   pub is-rule : isRule (recordAt maker depot r) ≡ true
   pub is-false : breaks l (recordAt maker depot r) ≡ true
+  -- of each lower record that is a rule the truth table is true
   pub lowest : (j : ℕ) → j < r → isRule (recordAt maker depot j) ≡ true → breaks l (recordAt maker depot j) ≡ false
 
 -- Test, on a call in form
@@ -122,7 +129,10 @@ KeepsSettled sheet l = (b : ℕ) → b < length sheet → (getD sheet b 2 ≡ 2 
 
 -- DEMAND 2. Fill agrees with the twenty propagation rules. Testing a full list agrees with the truth tables.
 pub record DemandTwo (maker depot sheet l out : List ℕ) : Type 0 where
+  -- on a call in form, a clash is reported exactly when some box derives both in and out; without one, an open box is settled exactly
+  -- when its state can be derived, in however many steps and whatever order; all other boxes stay
   pub fill : InForm (orderChecks maker depot sheet out) → FillAgrees maker depot sheet out
+  -- on a list in form, it fits exactly when every rule is true of it, and else the lowest false one is named
   pub test : InForm (testChecks maker depot l) → TestAgrees maker depot l
   -- the lists that First and Next hand out are the full lists that keep the settled boxes and test as fitting
   pub handed : InForm (sheetChecks maker depot sheet) →
@@ -139,7 +149,7 @@ pub record DemandThree (maker depot sheet : List ℕ) (lent : ℕ → List ℕ) 
   pub ends : AskedInForm maker depot sheet lent → Asked maker depot sheet lent (kits maker depot sheet)
   -- it can hand out no others
   pub only : AskedInForm maker depot sheet lent → (ls : List (List ℕ)) → Asked maker depot sheet lent ls → ls ≡ kits maker depot sheet
-  -- every list that keeps the settled boxes and makes every rule true
+  -- they are every full list that keeps the settled boxes and makes every rule true, and no other
   pub exactly : (l : List ℕ) → List·Memᴰ l (kits maker depot sheet) ↔ Kit (rulesIn maker depot) (length sheet) sheet l
   -- each once
   pub once : List·Nodup (kits maker depot sheet)
