@@ -16,7 +16,7 @@ use Rattle.spec.specs.Refusals.{passed, judge, givenCheck, outCheck, listCheck,
 use Rattle.spec.proofs.Judge.{judge-append, judge-passed}
 use Rattle.kits.specs.Kit.{IsFull}
 
-list-passes : (n : ℕ) (l : List ℕ) → IsFull n l → listCheck l .when ≡ false
+pub list-passes : (n : ℕ) (l : List ℕ) → IsFull n l → listCheck l .when ≡ false
 unfolding listCheck
 list-passes n l full =
     le-ltb (lowest (λ b. ltb 1 (getD l b 0)) (length l)) (length l)

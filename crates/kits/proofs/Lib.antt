@@ -12,4 +12,3 @@ pub mod Branch
 pub mod Bound
 pub mod Form
 pub mod Runs
-pub mod Demand

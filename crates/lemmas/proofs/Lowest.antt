@@ -38,6 +38,25 @@ lowest-below p (suc n) (suc i) h l =
     go true h k = absurd (not-suc-le-zero h)
     go false h k = k (le-of-suc-le-suc h)
 
+-- where it finds one, that passes, and none below it does
+pub lowest-found : (p : ℕ → Bool) (n : ℕ) → lowest p n < n → (p (lowest p n) ≡ true) × ((j : ℕ) → j < lowest p n → p j ≡ false)
+unfolding lowest
+lowest-found p zero h = absurd (not-suc-le-zero h)
+lowest-found p (suc n) h = go (p zero) refl h (lowest-found (λ j. p (suc j)) n)
+  where
+    low : ℕ
+    low = lowest (λ j. p (suc j)) n
+
+    below : p zero ≡ false → ((j : ℕ) → j < low → p (suc j) ≡ false) → (j : ℕ) → j < suc low → p j ≡ false
+    below e rest zero l = e
+    below e rest (suc j) l = rest j (le-of-suc-le-suc l)
+
+    go : (t : Bool) → p zero ≡ t → cond t zero (suc low) < suc n →
+        (low < n → (p (suc low) ≡ true) × ((j : ℕ) → j < low → p (suc j) ≡ false)) →
+        (p (cond t zero (suc low)) ≡ true) × ((j : ℕ) → j < cond t zero (suc low) → p j ≡ false)
+    go true e h rest = (e, λ j l. absurd (not-suc-le-zero l))
+    go false e h rest = let found = rest (le-of-suc-le-suc h) in (found .0, below e (found .1))
+
 -- a search that looks at 0, 1, 2, … has come to i: none below it passes. What each turn and each way out of its loop asks
 pub record Searched (p : ℕ → Bool) (n i : ℕ) : Type 0 where
   pub within : i ≤ n

@@ -14,7 +14,7 @@ use Rattle.spec.specs.Fits.{fits, broken, firstBroken, testChecks, testJ
 use Rattle.spec.proofs.Judge.{judge-reached}
 use Rattle.spec.proofs.Accepted.{Accepted, test-accepted}
 
-tested-broken : (count first number : ℕ) → answered (cond (ltb first count) (broken first) fits) ≡ answered (broken number) → (first ≡ number) × (first < count)
+pub tested-broken : (count first number : ℕ) → answered (cond (ltb first count) (broken first) fits) ≡ answered (broken number) → (first ≡ number) × (first < count)
 tested-broken count first number e = go (ltb first count) refl e
   where
     go : (t : Bool) → ltb first count ≡ t → answered (cond t (broken first) fits) ≡ answered (broken number) → (first ≡ number) × (first < count)

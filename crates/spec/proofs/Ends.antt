@@ -12,9 +12,10 @@ use Rattle.lemmas.proofs.Members.{map-member, upto-member}
 use Rattle.lemmas.proofs.Those.{those-member, member-those}
 use Rattle.spec.specs.Records.{Rec}
 use Rattle.spec.specs.Facts.{FactsOf, Closed, Closure, settled, fires, holds}
+use Rattle.spec.specs.Firing.{Fact, says, Listed, Run, start, fire}
 use Rattle.spec.specs.Rounds.{closed}
 use Rattle.spec.proofs.Least.{Inside}
-use Rattle.spec.proofs.Firing.{Fact, says, Listed, Run, start, fire, run-holds, run-derived}
+use Rattle.spec.proofs.Firing.{run-holds, run-derived}
 use Rattle.spec.proofs.Named.{Within}
 use Rattle.spec.proofs.Codes.{Codes, holds-below}
 use Rattle.spec.proofs.Closed.{closed-sound, closed-complete}

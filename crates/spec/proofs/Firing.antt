@@ -4,34 +4,12 @@
 use mathlib.Core.Path.{subst⁻¹}
 use mathlib.Core.Logic.{_↔_, ⊎-elim}
 use mathlib.Core.Bool.{Bool}
-use mathlib.Core.List.{List, _∷_, List·Memᴰ, List·Memᴰ·tail, List·Memᴰ·cases-cons}
+use mathlib.Core.List.{List, List·Memᴰ·tail, List·Memᴰ·cases-cons}
 use Prim.Native.Nat.{ℕ}
-use Rattle.spec.specs.Kinds.{kindOf}
-use Rattle.spec.specs.Rules.{Literal, Rule, rulesOf}
-use Rattle.spec.specs.Records.{Rec, boxAt}
-use Rattle.spec.specs.Facts.{Facts, FactsOf, HasAll, Closed, Closure, settled, fires}
+use Rattle.spec.specs.Records.{Rec}
+use Rattle.spec.specs.Facts.{FactsOf, Closed, Closure, settled, fires}
+use Rattle.spec.specs.Firing.{Fact, Listed, Run, start, fire}
 use Rattle.spec.proofs.Least.{Inside, closure-unique}
-
--- "box b is in" (state true), or "box b is out"
-pub record Fact : Type 0 where
-  pub box : ℕ
-  pub state : Bool
-
--- what a literal says of the record's box
-abbrev pub says : Rec → Literal → Fact
-says q l = record { box = boxAt q (l .place); state = l .state }
-
--- the facts that a list holds, in whichever order it came to them
-abbrev pub Listed : List Fact → Facts
-Listed fs b state = List·Memᴰ (record { box = b; state = state }) fs
-
--- the lists that firing comes to: exactly the sheet's facts at the start; then a rule of a record whose premises are listed
--- adds a conclusion, new or not
-pub data Run (qs : List Rec) (s : List ℕ) : List Fact → Type 0 where
-  start : {fs : List Fact} → ((b : ℕ) (state : Bool) → Listed fs b state ↔ FactsOf s b state) → Run qs s fs
-  fire : {fs : List Fact} → Run qs s fs → (q : Rec) → List·Memᴰ q qs → (r : Rule) →
-      List·Memᴰ r (rulesOf (kindOf (q .kind))) → HasAll (Listed fs) q (r .premises) →
-      (l : Literal) → List·Memᴰ l (r .conclusions) → Run qs s (says q l ∷ fs)
 
 module _ {qs : List Rec} {s : List ℕ} where
   pub run-holds : {fs : List Fact} → Run qs s fs → Inside (FactsOf s) (Listed fs)

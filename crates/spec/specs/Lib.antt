@@ -4,6 +4,7 @@ pub mod SameRule
 pub mod Minimal
 pub mod Records
 pub mod Facts
+pub mod Firing
 pub mod Rounds
 pub mod Refusals
 pub mod Fits

@@ -1,9 +1,9 @@
 -- What Fill says of a call in form, in each of its cases.
 -- Assumes nothing.
-use mathlib.Core.Path.{_≡_, refl, sym, ap, subst, _∙_}
+use mathlib.Core.Path.{_≡_, refl}
 use mathlib.Core.Logic.{_↔_}
 use mathlib.Core.Bool.{Bool, true, false, cond, _&&_}
-use mathlib.Core.List.{List, [], _∷_}
+use mathlib.Core.List.{List}
 use Prim.Native.Nat.{ℕ, _<_}
 use native.Mathlib.Omega.{arith}
 use borrow.Author.Tests.{lt-ltb}
@@ -14,7 +14,7 @@ use Rattle.lemmas.proofs.Tests.{T-true, true-T, false-T, both-left, both-right,
 use Rattle.lemmas.proofs.Members.{any-member, any-of, upto-member}
 use Rattle.spec.specs.Records.{recordCount, rulesIn}
 use Rattle.spec.specs.Facts.{Closure, Clash, holds}
-use Rattle.spec.specs.Refusals.{Refusal, reason, Said, refused, answered, judge}
+use Rattle.spec.specs.Refusals.{reason, refused, answered}
 use Rattle.spec.specs.Fits.{firstBroken}
 use Rattle.spec.specs.Fill.{closureOf, clashes, boxesFilled, openCount, clashCheck, brokenCheck, fillJudges}
 use Rattle.spec.proofs.Accepted.{AcceptedSheet}
@@ -24,18 +24,12 @@ use Rattle.spec.proofs.Closed.{closed-sound, closed-closure}
 use Rattle.theory.proofs.States.{sheet-codes}
 use Rattle.theory.proofs.Numbered.{rules-good}
 
--- where 7 is said, and where a number of boxes is, by whether 7 and 8 apply
+-- where 7 is said, by whether 7 and 8 apply
 seven-said : (seven eight : Bool) (place k : ℕ) →
     cond seven (refused (reason 7 0)) (cond eight (refused (reason 8 place)) (answered k)) ≡ refused (reason 7 0) → seven ≡ true
 seven-said true eight place k e = refl
 seven-said false true place k e = let z : _≡_ {A = ℕ} 8 7 = cc in absurd (omega arith)
 seven-said false false place k e = let z : _≡_ {A = ℕ} 0 1 = cc in absurd (omega arith)
-
-number-said : (seven eight : Bool) (place j k : ℕ) → cond seven (refused (reason 7 0)) (cond eight (refused (reason 8 place)) (answered j)) ≡ answered k →
-    (seven ≡ false) × (k ≡ j)
-number-said true eight place j k e = let z : _≡_ {A = ℕ} 0 1 = cc in absurd (omega arith)
-number-said false true place j k e = let z : _≡_ {A = ℕ} 0 1 = cc in absurd (omega arith)
-number-said false false place j k e = (refl, cc)
 
 module _ (maker depot sheet : List ℕ) where
   -- the closure as codes
@@ -79,14 +73,6 @@ module _ (maker depot sheet : List ℕ) where
     pub fill-seven : fillJudges maker depot sheet ≡ refused (reason 7 0) → (b : ℕ) × Clash (rulesIn maker depot) sheet b
     unfolding fillJudges clashCheck brokenCheck
     fill-seven e = clash-found (T-true (seven-said (clashes codes) (brokenCheck maker depot codes .when) _ _ e))
-
-    -- a number of boxes is said without a clash, and is the right one
-    pub fill-number : (k : ℕ) → fillJudges maker depot sheet ≡ answered k →
-        ((b : ℕ) → Clash (rulesIn maker depot) sheet b → ⊥) × (k ≡ boxesFilled sheet codes)
-    unfolding fillJudges clashCheck brokenCheck
-    fill-number k e =
-        let said = number-said (clashes codes) (brokenCheck maker depot codes .when) _ _ k e in
-        (λ b clash. subst T (said .0) (clash-finds clash), said .1)
 
   module _ (none : (b : ℕ) → Clash (rulesIn maker depot) sheet b → ⊥) where
     no-clash : clashes codes ≡ false

@@ -9,4 +9,3 @@ pub mod Stepping
 pub mod Measure
 pub mod Numbered
 pub mod Filling
-pub mod Demand

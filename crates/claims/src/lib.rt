@@ -1,0 +1,1 @@
+// The three demands, each as one record, and their proofs. No code.
