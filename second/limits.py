@@ -1,5 +1,5 @@
 #!/usr/bin/env python3
-"""Calls of Fill, Test and Show at the limits, and what the probe has to answer to them, worked out by desk.py.
+"""Calls of every operation at the limits, and what the probe has to answer to them, worked out by desk.py.
 
 `limits.py calls` prints the calls, each below a line that names it; `limits.py answers` prints a line for each call.
 """
@@ -135,10 +135,34 @@ def chains():
         fill_line(f"{last} EQU and a NOT of the ends, {words}", table, b"", settled(last + 1, 0, state))
 
 
+def list_lines(name, maker, depot, sheet, lists, most):
+    """First, and Next after each list handed out: these lists in their order, and then none, or no more than `most` calls."""
+    out = [9] * len(sheet)
+    answers = [line("list", each) for each in lists] + [line("refused 9 0", out)]
+    calls = [line("first", maker, depot, sheet, out)] + [line("next", maker, depot, sheet, each, out) for each in lists]
+    for number, (call, answer) in enumerate(zip(calls[:most], answers)):
+        cases.append((f"{name}, list {number}", call, answer))
+
+
+def counting(n, most):
+    """The first lists of n free boxes: the numbers from 0 on, box 0 on top."""
+    return [[number >> (n - 1 - box) & 1 for box in range(n)] for number in range(min(most, 2 ** n))]
+
+
+def lists():
+    list_lines("10 free boxes", b"", b"", [OPEN] * 10, counting(10, 2000), 2000)
+    # as deep as the search goes
+    list_lines("256 free boxes", b"", b"", [OPEN] * 256, counting(256, 65), 65)
+    maker, depot = record(AND, 0, 1, 2), record(EQU, 0, 2)
+    kits = [each for each in product((OUT, IN), repeat=3) if not broken(check_tables(maker, depot, 3), each)]
+    list_lines("P5, A", maker, depot, [OPEN] * 3, kits, 9)
+
+
 if __name__ == "__main__":
     form()
     small()
     chains()
+    lists()
     if sys.argv[1:] == ["calls"]:
         for name, call, _ in cases:
             print(f"# {name}\n{call}")
