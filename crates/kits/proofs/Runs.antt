@@ -1,4 +1,4 @@
--- A run of calls: its lists are decided, and there is one that hands out the kits in their order.
+-- A run of calls: there is one that hands out the kits in their order, and its lists are decided.
 -- Assumes nothing.
 use mathlib.Core.Path.{_≡_, refl, sym, ap, ap₂, subst, _∙_}
 use mathlib.Core.List.{List, [], _∷_, _++_, append-assoc, List·Memᴰ, List·Memᴰ·head, Memᴰ·append-right}
@@ -16,28 +16,6 @@ use Rattle.kits.proofs.Order.{before-irrefl, before-asym}
 use Rattle.kits.proofs.Kits.{kits-in-order}
 use Rattle.kits.proofs.Says.{first-head, first-empty, next-head, next-empty}
 use Rattle.kits.proofs.Form.{first-passes, next-passes}
-
-nine-list : refused (reason 9 0) ≡ handedOut → ⊥
-nine-list = refused-answered
-
--- the lists handed out are decided
-module _ {maker depot sheet : List ℕ} {lent : ℕ → List ℕ} where
-  nexts-same : {i : ℕ} {given : List ℕ} {ls ks : List (List ℕ)} →
-      Nexts maker depot sheet lent i given ls → Nexts maker depot sheet lent i given ks → ls ≡ ks
-  nexts-same (done e) (done f) = refl
-  nexts-same (done e) (handed f w r) = absurd (nine-list (sym e ∙ f))
-  nexts-same (handed e w r) (done f) = absurd (nine-list (sym f ∙ e))
-  nexts-same (handed {i} e w r) (handed {ls = ks} f v s) =
-      ap₂ _∷_ (sym w ∙ v)
-      (nexts-same r (subst (λ (x : List ℕ). Nexts maker depot sheet lent (suc i) x ks) (sym v ∙ w) s))
-
-  pub asked-same : {ls ks : List (List ℕ)} → Asked maker depot sheet lent ls → Asked maker depot sheet lent ks → ls ≡ ks
-  asked-same (none e) (none f) = refl
-  asked-same (none e) (first f w r) = absurd (nine-list (sym e ∙ f))
-  asked-same (first e w r) (none f) = absurd (nine-list (sym f ∙ e))
-  asked-same (first e w r) (first {ls = ks} f v s) =
-      ap₂ _∷_ (sym w ∙ v)
-      (nexts-same r (subst (λ (x : List ℕ). Nexts maker depot sheet lent 1 x ks) (sym v ∙ w) s))
 
 -- a list of the kits, with those before it and those behind it
 module _ (maker depot sheet : List ℕ) (front : List (List ℕ)) (l : List ℕ) (rest : List (List ℕ))
@@ -79,3 +57,25 @@ module _ (maker depot sheet : List ℕ) (lent : ℕ → List ℕ)
 
   pub asked-kits : Asked maker depot sheet lent (kits maker depot sheet)
   asked-kits = asked-as (kits maker depot sheet) refl
+
+nine-list : refused (reason 9 0) ≡ handedOut → ⊥
+nine-list = refused-answered
+
+-- the lists handed out are decided
+module _ {maker depot sheet : List ℕ} {lent : ℕ → List ℕ} where
+  nexts-same : {i : ℕ} {given : List ℕ} {ls ks : List (List ℕ)} →
+      Nexts maker depot sheet lent i given ls → Nexts maker depot sheet lent i given ks → ls ≡ ks
+  nexts-same (done e) (done f) = refl
+  nexts-same (done e) (handed f w r) = absurd (nine-list (sym e ∙ f))
+  nexts-same (handed e w r) (done f) = absurd (nine-list (sym f ∙ e))
+  nexts-same (handed {i} e w r) (handed {ls = ks} f v s) =
+      ap₂ _∷_ (sym w ∙ v)
+      (nexts-same r (subst (λ (x : List ℕ). Nexts maker depot sheet lent (suc i) x ks) (sym v ∙ w) s))
+
+  pub asked-same : {ls ks : List (List ℕ)} → Asked maker depot sheet lent ls → Asked maker depot sheet lent ks → ls ≡ ks
+  asked-same (none e) (none f) = refl
+  asked-same (none e) (first f w r) = absurd (nine-list (sym e ∙ f))
+  asked-same (first e w r) (none f) = absurd (nine-list (sym f ∙ e))
+  asked-same (first e w r) (first {ls = ks} f v s) =
+      ap₂ _∷_ (sym w ∙ v)
+      (nexts-same r (subst (λ (x : List ℕ). Nexts maker depot sheet lent 1 x ks) (sym v ∙ w) s))

@@ -45,12 +45,12 @@ pub extern "C" fn angatupyi_show<'a>(
 )
     ensures { λ _. ⌜ now (answer .exit) ≡ threeOfPart (showsPart (now (maker .entry)) (now (depot .entry)) (now (list .entry))) ⌝ }
 {
-    let said = fits::numbers(test(maker, depot, list));
-    if said.code != BROKEN {
+    let tested = fits::numbers(test(maker, depot, list));
+    if tested.code != BROKEN {
         *answer = [0, 0, 0];
         return;
     }
-    let place = place_of(maker, said.first as usize);
+    let place = place_of(maker, tested.first as usize);
     if place.depots {
         *answer = [1, place.start as u64, 8];
     } else {

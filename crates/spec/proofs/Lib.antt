@@ -16,6 +16,6 @@ pub mod Closed
 pub mod Ends
 pub mod Kept
 pub mod Samples
-pub mod Bounds
+pub mod Acceptable
 pub mod Broken
 pub mod Shown

@@ -17,12 +17,12 @@ use Rattle.spec.specs.Fill.{closureOf, clashes, boxesFilled, openCount, 
 use Rattle.spec.specs.Kits.{keeps, fitsAll, kits, kitsAfter, isNone, headOf, noneCheck, handedOut, firstSays, firstWrites, nextSays, nextWrites}
 use Rattle.spec.specs.OneRule.{recordOf, statesOf, packed, outcome}
 
--- a call of an operation on two tables, the list of all kits, or an entry of the one-rule table
+-- a call of an operation on two tables, with the out buffer that it is lent; the list of all kits; or an entry of the one-rule table
 pub data Call : Type 0 where
-  fill : (sheet : List ℕ) → Call
+  fill : (sheet out : List ℕ) → Call
   test : (l : List ℕ) → Call
-  first : (sheet : List ℕ) → Call
-  next : (sheet given : List ℕ) → Call
+  first : (sheet out : List ℕ) → Call
+  next : (sheet given out : List ℕ) → Call
   all : (sheet : List ℕ) → Call
   entry : ℕ → Call
 
@@ -35,10 +35,10 @@ pub data Answer : Type 0 where
   number : ℕ → Answer
 
 abbrev answer : List ℕ → List ℕ → Call → Answer
-answer m d (fill s) = fills (fillSays m d s s) (fillWrites m d s s)
+answer m d (fill s out) = fills (fillSays m d s out) (fillWrites m d s out)
 answer m d (test l) = shows (testSays m d l) (showsPart m d l)
-answer m d (first s) = hands (firstSays m d s s) (firstWrites m d s s)
-answer m d (next s g) = hands (nextSays m d s g s) (nextWrites m d s g s)
+answer m d (first s out) = hands (firstSays m d s out) (firstWrites m d s out)
+answer m d (next s g out) = hands (nextSays m d s g out) (nextWrites m d s g out)
 answer m d (all s) = lists (kits m d s)
 answer m d (entry k) = number (outcome k)
 
@@ -67,6 +67,13 @@ not-record = 2 ∷ 0 ∷ 0 ∷ 0 ∷ 1 ∷ 0 ∷ 255 ∷ 255 ∷ []
 self-record : List ℕ
 self-record = 2 ∷ 0 ∷ 0 ∷ 0 ∷ 0 ∷ 0 ∷ 255 ∷ 255 ∷ []
 
+-- out buffers of three bytes and of two, which no sheet has
+abbrev three : List ℕ
+three = 7 ∷ 8 ∷ 9 ∷ []
+
+abbrev two : List ℕ
+two = 7 ∷ 8 ∷ []
+
 abbrev onA : Call → Answer → Sample
 onA c a = record { maker = and-record; depot = equ-record; call = c; paper = a }
 
@@ -78,27 +85,27 @@ onNone c a = record { maker = []; depot = []; call = c; paper = a }
 
 pub table : List Sample
 table =
-    onA (fill (1 ∷ 2 ∷ 2 ∷ [])) (fills (answered 2) (1 ∷ 1 ∷ 1 ∷ []))
-    ∷ onA (fill (2 ∷ 0 ∷ 2 ∷ [])) (fills (answered 2) (0 ∷ 0 ∷ 0 ∷ []))
-    ∷ onA (fill (2 ∷ 2 ∷ 2 ∷ [])) (fills (answered 0) (2 ∷ 2 ∷ 2 ∷ []))
-    ∷ onA (fill (1 ∷ 0 ∷ 2 ∷ [])) (fills (refused (reason 7 0)) (1 ∷ 0 ∷ 2 ∷ []))
+    onA (fill (1 ∷ 2 ∷ 2 ∷ []) three) (fills (answered 2) (1 ∷ 1 ∷ 1 ∷ []))
+    ∷ onA (fill (2 ∷ 0 ∷ 2 ∷ []) three) (fills (answered 2) (0 ∷ 0 ∷ 0 ∷ []))
+    ∷ onA (fill (2 ∷ 2 ∷ 2 ∷ []) three) (fills (answered 0) (2 ∷ 2 ∷ 2 ∷ []))
+    ∷ onA (fill (1 ∷ 0 ∷ 2 ∷ []) three) (fills (refused (reason 7 0)) three)
     ∷ onA (all (2 ∷ 2 ∷ 2 ∷ [])) (lists ((0 ∷ 0 ∷ 0 ∷ []) ∷ (0 ∷ 1 ∷ 0 ∷ []) ∷ (1 ∷ 1 ∷ 1 ∷ []) ∷ []))
-    ∷ onA (first (2 ∷ 2 ∷ 2 ∷ [])) (hands handedOut (0 ∷ 0 ∷ 0 ∷ []))
-    ∷ onA (next (2 ∷ 2 ∷ 2 ∷ []) (0 ∷ 1 ∷ 1 ∷ [])) (hands handedOut (1 ∷ 1 ∷ 1 ∷ []))
-    ∷ onA (next (2 ∷ 2 ∷ 2 ∷ []) (1 ∷ 1 ∷ 1 ∷ [])) (hands (refused (reason 9 0)) (2 ∷ 2 ∷ 2 ∷ []))
+    ∷ onA (first (2 ∷ 2 ∷ 2 ∷ []) three) (hands handedOut (0 ∷ 0 ∷ 0 ∷ []))
+    ∷ onA (next (2 ∷ 2 ∷ 2 ∷ []) (0 ∷ 1 ∷ 1 ∷ []) three) (hands handedOut (1 ∷ 1 ∷ 1 ∷ []))
+    ∷ onA (next (2 ∷ 2 ∷ 2 ∷ []) (1 ∷ 1 ∷ 1 ∷ []) three) (hands (refused (reason 9 0)) three)
     ∷ onA (test (1 ∷ 0 ∷ 0 ∷ [])) (shows (answered (broken 1)) (record { depots = true; start = 0; size = 8 }))
     ∷ onA (test (1 ∷ 1 ∷ 0 ∷ [])) (shows (answered (broken 0)) (record { depots = false; start = 0; size = 8 }))
-    ∷ onP (fill (2 ∷ 2 ∷ [])) (fills (answered 0) (2 ∷ 2 ∷ []))
-    ∷ onP (first (2 ∷ 2 ∷ [])) (hands (refused (reason 9 0)) (2 ∷ 2 ∷ []))
+    ∷ onP (fill (2 ∷ 2 ∷ []) two) (fills (answered 0) (2 ∷ 2 ∷ []))
+    ∷ onP (first (2 ∷ 2 ∷ []) two) (hands (refused (reason 9 0)) two)
     ∷ onNone (entry 150) (number 21)
     ∷ onNone (entry 168) (number 40)
     ∷ onNone (entry 201) (number 5)
     ∷ onNone (entry 6) (number 62)
     ∷ onNone (entry 137) (number 63)
     ∷ onNone (entry 106) (number 42)
-    ∷ onNone (fill []) (fills (answered 0) [])
-    ∷ onNone (first []) (hands handedOut [])
-    ∷ onNone (next [] []) (hands (refused (reason 9 0)) [])
+    ∷ onNone (fill [] []) (fills (answered 0) [])
+    ∷ onNone (first [] []) (hands handedOut [])
+    ∷ onNone (next [] [] []) (hands (refused (reason 9 0)) [])
     ∷ record { maker = self-record; depot = []; call = test (0 ∷ []); paper = shows (refused (reason 3 0)) (record { depots = false; start = 0; size = 0 }) }
     ∷ []
 
