@@ -10,14 +10,14 @@ ghost use Rattle.spec.specs.OneRule.{outcome};
 ghost use Rattle.onerule.specs.Index.{indexOf, Coded};
 
 // The whole table: entry k is the outcome of k. Every use of a constant array builds it anew, so the constant is used here alone.
-pub fn table() -> [u8; 256]
+fn table() -> [u8; 256]
     ensures { λ r. ⌜ r ≡ map outcome (upto 256) ⌝ }
 {
     OUTCOMES
 }
 
 // Where the entry for a kind and three states stands.
-pub fn index(kind: u8, a: u8, b: u8, c: u8) -> usize
+fn index(kind: u8, a: u8, b: u8, c: u8) -> usize
     requires { ⌜ Coded kind a b c ⌝ }
     ensures { λ r. ⌜ r ≡ indexOf kind a b c ⌝ }
 {
@@ -25,7 +25,7 @@ pub fn index(kind: u8, a: u8, b: u8, c: u8) -> usize
 }
 
 // The entry at index k.
-pub fn entry(k: usize) -> u8
+fn entry(k: usize) -> u8
     requires { ⌜ k < 256 ⌝ }
     ensures { λ r. ⌜ r ≡ outcome k ⌝ }
 {
@@ -33,7 +33,7 @@ pub fn entry(k: usize) -> u8
     t[k]
 }
 
-// The entry for a kind and three states.
+// The entry for a kind and three states: the table is read by these alone.
 pub fn outcome_of(kind: u8, a: u8, b: u8, c: u8) -> u8
     requires { ⌜ Coded kind a b c ⌝ }
     ensures { λ r. ⌜ r ≡ outcome (indexOf kind a b c) ⌝ }

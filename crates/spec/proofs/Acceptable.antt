@@ -5,7 +5,7 @@
 -- Assumes nothing.
 use mathlib.Core.Path.{_≡_, refl}
 use mathlib.Core.Bool.{Bool, true, false}
-use mathlib.Core.List.{List, [], _∷_, map}
+use mathlib.Core.List.{List, [], _∷_, _++_, map}
 use Prim.Native.Nat.{ℕ}
 use lib.ListN.{replicate}
 use Rattle.lemmas.specs.Lowest.{lowest}
@@ -16,9 +16,11 @@ use Rattle.spec.specs.Facts.{holds}
 use Rattle.spec.specs.Rounds.{has, names, gives, follows, code, round, closed}
 use Rattle.spec.specs.Refusals.{Said, reason, refused, answered, passed, Check, judge, boxesCheck, makerCheck, depotCheck, countCheck}
 use Rattle.spec.specs.Refusals.{recordCheck, sheetCheck, givenCheck, outCheck, listCheck}
-use Rattle.spec.specs.Fits.{isIn, breaks, isBroken, firstBroken, testJudges, testSays, Part, recordPart, bytesOf}
-use Rattle.spec.specs.Fill.{closureOf, clashes, boxesFilled, openCount, clashCheck, brokenCheck, fillJudges, fillSays}
-use Rattle.spec.specs.Kits.{keeps, fitsAll, kits, isNone, noneCheck, firstSays, nextSays}
+use Rattle.spec.specs.Fits.{isIn, breaks, isBroken, firstBroken, Verdict, fits, broken, testJudges, testSays, Part, recordPart, showsPart}
+use Rattle.spec.specs.Fits.{bytesOf}
+use Rattle.spec.specs.Fill.{closureOf, clashes, openCount, clashCheck, brokenCheck, fillJudges, fillSays, fillWrites}
+use Rattle.spec.specs.Kits.{fullLists, keeps, fitsAll, kits, kitsAfter, isNone, headOf, noneCheck, firstSays, firstWrites, nextSays, nextWrites}
+use Rattle.spec.specs.OneRule.{recordOf, statesOf, packed, outcome}
 use Rattle.spec.proofs.Samples.{and-record, equ-record, same-record, not-record}
 
 abbrev Agree : {A : Type 0} → List (A × A) → Type 0
@@ -37,7 +39,8 @@ pub read-limits :
 unfolding recFrom recordAt
 read-limits = refl
 
--- with 3 boxes: kinds 0 and 5, byte 1, each box past the end, z missing and z that belongs to none, and each pair of boxes alike
+-- with 3 boxes: kinds 0 and 5, with a z and without; byte 1; each box past the end; z missing and z that belongs to none; each pair of
+-- boxes alike
 pub bad-limits :
     Agree
     ((bad 3 (rec 3 0 0 1 2), false)
@@ -45,7 +48,9 @@ pub bad-limits :
     ∷ (bad 3 (rec 1 0 0 2 65535), false)
     ∷ (bad 3 (rec 2 0 2 0 65535), false)
     ∷ (bad 3 (rec 0 0 0 1 2), true)
+    ∷ (bad 3 (rec 0 0 0 1 65535), true)
     ∷ (bad 3 (rec 5 0 0 1 2), true)
+    ∷ (bad 3 (rec 5 0 0 1 65535), true)
     ∷ (bad 3 (rec 3 1 0 1 2), true)
     ∷ (bad 3 (rec 3 0 3 1 2), true)
     ∷ (bad 3 (rec 3 0 0 3 2), true)
@@ -62,6 +67,21 @@ pub bad-limits :
     ∷ [])
 unfolding bad kindOf placesOf boxAt boxesOf noKind lacksZ twoEqual
 bad-limits = refl
+
+-- whether this kind of rule on boxes 0, 1 and 2 is broken, for each full list of three boxes in order
+abbrev broken-by : ℕ → List Bool
+broken-by kind = map (λ l. breaks l (rec kind 0 0 1 2)) (fullLists 3)
+
+-- EQU, NOT, AND and OR
+pub truth-limits :
+    Agree
+    ((broken-by 1, false ∷ false ∷ true ∷ true ∷ true ∷ true ∷ false ∷ false ∷ [])
+    ∷ (broken-by 2, true ∷ true ∷ false ∷ false ∷ false ∷ false ∷ true ∷ true ∷ [])
+    ∷ (broken-by 3, false ∷ true ∷ false ∷ true ∷ false ∷ true ∷ true ∷ false ∷ [])
+    ∷ (broken-by 4, false ∷ true ∷ true ∷ false ∷ true ∷ false ∷ true ∷ false ∷ [])
+    ∷ [])
+unfolding kindOf meaning boxAt isIn breaks
+truth-limits = refl
 
 -- what is said where this check is the only one
 abbrev said : Check → Said (Unit {0})
@@ -107,16 +127,25 @@ unfolding boxesCheck makerCheck depotCheck countCheck recordCheck sheetCheck giv
     clashes holds openCount isRule isIn meaning breaks isBroken firstBroken isNone
 check-limits = refl
 
+-- a fact that goes to the last of five boxes, and its opposite that comes back: eight rounds
+pub closed-limits :
+    Agree
+    ((
+      closed (rec 1 0 0 1 65535 ∷ rec 1 0 1 2 65535 ∷ rec 1 0 2 3 65535 ∷ rec 1 0 3 4 65535 ∷ rec 2 0 3 4 65535 ∷ []) (1 ∷ 2 ∷ 2 ∷ 2 ∷ 2 ∷ []),
+      3 ∷ 3 ∷ 3 ∷ 3 ∷ 3 ∷ [],
+    )
+    ∷ [])
+unfolding kindOf rulesOf boxAt holds has names gives follows code round closed
+closed-limits = refl
+
 -- the refusal alone, whatever the operation's answer
 abbrev form : {A : Type 0} → Said A → Said (Unit {0})
 form (refused why) = refused why
 form (answered answer) = passed
 
 -- where several checks apply the first is given. Test with too many boxes and a cut table; both tables cut; the depot's cut and a bad
--- record; 1,025 bad records; a bad record in the depot and a list byte; a list byte. Fill with too many boxes and a cut table; a bad
--- record and a sheet byte; a sheet byte and the out buffer; the out buffer alone; a clash where the filled sheet breaks a rule too.
--- First with the out buffer. Next with a sheet byte and all lengths; both lengths; the out buffer and a list byte; a list byte alone
-pub order-limits :
+-- record; 1,025 bad records; a bad record in the depot and a list byte; a list byte
+pub test-order :
     Agree
     ((form (testSays (3 ∷ []) (3 ∷ []) (replicate 257 2)), refused (reason 1 0))
     ∷ (form (testSays (3 ∷ []) (3 ∷ []) (2 ∷ [])), refused (reason 2 0))
@@ -124,22 +153,71 @@ pub order-limits :
     ∷ (form (testSays (replicate 8192 0) (replicate 8 0) (2 ∷ [])), refused (reason 2 2))
     ∷ (form (testSays same-record (replicate 8 0) (0 ∷ 2 ∷ [])), refused (reason 3 1))
     ∷ (form (testSays [] [] (0 ∷ 2 ∷ [])), refused (reason 6 1))
-    ∷ (form (fillSays (3 ∷ []) [] (replicate 257 3) []), refused (reason 1 0))
+    ∷ [])
+unfolding boxesCheck makerCheck depotCheck countCheck recordCheck listCheck
+    recordCount lowest bad kindOf placesOf boxAt boxesOf noKind lacksZ twoEqual recFrom recordAt testJudges testSays
+test-order = refl
+
+-- Fill with too many boxes and a cut table; both tables cut; the depot's cut and a sheet byte; a bad record and a sheet byte; a sheet
+-- byte and the out buffer; the out buffer alone; a clash where the filled sheet breaks a rule too
+pub fill-order :
+    Agree
+    ((form (fillSays (3 ∷ []) [] (replicate 257 3) []), refused (reason 1 0))
+    ∷ (form (fillSays (3 ∷ []) (3 ∷ []) (0 ∷ 3 ∷ []) []), refused (reason 2 0))
+    ∷ (form (fillSays [] (3 ∷ []) (0 ∷ 3 ∷ []) []), refused (reason 2 1))
     ∷ (form (fillSays (replicate 8 0) [] (0 ∷ 3 ∷ []) []), refused (reason 3 0))
     ∷ (form (fillSays [] [] (0 ∷ 3 ∷ []) []), refused (reason 4 1))
     ∷ (form (fillSays [] [] (0 ∷ 2 ∷ []) []), refused (reason 5 1))
     ∷ (form (fillSays same-record not-record (1 ∷ 2 ∷ []) (7 ∷ 8 ∷ [])), refused (reason 7 0))
+    ∷ [])
+unfolding boxesCheck makerCheck depotCheck countCheck recordCheck sheetCheck outCheck clashCheck brokenCheck
+    recordCount lowest bad kindOf placesOf boxAt boxesOf noKind lacksZ twoEqual recFrom recordAt rulesIn isRule
+    rulesOf holds has names gives follows code round closed closureOf clashes openCount isIn meaning breaks isBroken firstBroken
+    fillJudges fillSays
+fill-order = refl
+
+-- First with both tables cut; the depot's cut; a sheet byte; the out buffer. Next with both tables cut; the depot's cut; a sheet byte and
+-- both lengths; both lengths; the given list's length; the out buffer's and a list byte; a list byte alone
+pub list-order :
+    Agree
+    ((form (firstSays (3 ∷ []) (3 ∷ []) (0 ∷ 3 ∷ []) []), refused (reason 2 0))
+    ∷ (form (firstSays [] (3 ∷ []) (0 ∷ 3 ∷ []) []), refused (reason 2 1))
+    ∷ (form (firstSays [] [] (0 ∷ 3 ∷ []) (0 ∷ 0 ∷ [])), refused (reason 4 1))
     ∷ (form (firstSays [] [] (0 ∷ 2 ∷ []) []), refused (reason 5 1))
+    ∷ (form (nextSays (3 ∷ []) (3 ∷ []) (0 ∷ 3 ∷ []) [] []), refused (reason 2 0))
+    ∷ (form (nextSays [] (3 ∷ []) (0 ∷ 3 ∷ []) [] []), refused (reason 2 1))
     ∷ (form (nextSays [] [] (0 ∷ 3 ∷ []) [] []), refused (reason 4 1))
     ∷ (form (nextSays [] [] (0 ∷ 2 ∷ []) [] []), refused (reason 5 0))
+    ∷ (form (nextSays [] [] (0 ∷ 2 ∷ []) [] (0 ∷ 0 ∷ [])), refused (reason 5 0))
     ∷ (form (nextSays [] [] (0 ∷ 2 ∷ []) (0 ∷ 2 ∷ []) []), refused (reason 5 1))
     ∷ (form (nextSays [] [] (0 ∷ 2 ∷ []) (0 ∷ 2 ∷ []) (0 ∷ 0 ∷ [])), refused (reason 6 1))
     ∷ [])
-unfolding boxesCheck makerCheck depotCheck countCheck recordCheck sheetCheck givenCheck outCheck listCheck clashCheck brokenCheck noneCheck
-    recordCount lowest bad kindOf placesOf boxAt boxesOf noKind lacksZ twoEqual recFrom recordAt rulesIn isRule
-    rulesOf holds has names gives follows code round closed closureOf clashes openCount isIn meaning breaks isBroken firstBroken isNone
-    testJudges testSays fillJudges fillSays firstSays nextSays
-order-limits = refl
+unfolding boxesCheck makerCheck depotCheck countCheck recordCheck sheetCheck givenCheck outCheck listCheck noneCheck
+    recordCount lowest bad kindOf placesOf boxAt boxesOf noKind lacksZ twoEqual recFrom recordAt firstSays nextSays
+list-order = refl
+
+-- an out buffer of another length is left as it was
+pub kept-limits :
+    Agree
+    ((fillWrites [] [] (0 ∷ 2 ∷ []) (7 ∷ []), 7 ∷ [])
+    ∷ (firstWrites [] [] (0 ∷ 2 ∷ []) (7 ∷ []), 7 ∷ [])
+    ∷ (nextWrites [] [] (0 ∷ 2 ∷ []) (0 ∷ 0 ∷ []) (7 ∷ []), 7 ∷ [])
+    ∷ [])
+unfolding boxesCheck makerCheck depotCheck countCheck recordCheck sheetCheck givenCheck outCheck listCheck
+    recordCount lowest fillSays fillWrites firstSays firstWrites nextSays nextWrites
+kept-limits = refl
+
+-- two records in the maker's table, one in the depot's: which is broken
+pub verdict-limits :
+    Agree
+    ((testSays (and-record ++ and-record) equ-record (1 ∷ 1 ∷ 0 ∷ []), answered (broken 0))
+    ∷ (testSays (and-record ++ and-record) equ-record (1 ∷ 0 ∷ 0 ∷ []), answered (broken 2))
+    ∷ (testSays (and-record ++ and-record) equ-record (1 ∷ 1 ∷ 1 ∷ []), answered fits)
+    ∷ [])
+unfolding boxesCheck makerCheck depotCheck countCheck recordCheck listCheck
+    recordCount lowest bad kindOf placesOf boxAt boxesOf noKind lacksZ twoEqual recFrom recordAt isRule
+    isIn meaning breaks isBroken firstBroken testJudges testSays
+verdict-limits = refl
 
 abbrev inMakers : ℕ → Part
 inMakers start = record { depots = false; start = start; size = 8 }
@@ -147,18 +225,32 @@ inMakers start = record { depots = false; start = start; size = 8 }
 abbrev inDepots : ℕ → Part
 inDepots start = record { depots = true; start = start; size = 8 }
 
--- two records in the maker's table: the last of it and the first of the depot's
+-- and where it lies: the last record of the maker's table and the first of the depot's; then by Show, of a broken record and where the
+-- list fits
 pub part-limits :
     Agree
     ((recordPart (replicate 16 0) 0, inMakers 0)
     ∷ (recordPart (replicate 16 0) 1, inMakers 8)
     ∷ (recordPart (replicate 16 0) 2, inDepots 0)
     ∷ (recordPart (replicate 16 0) 3, inDepots 8)
+    ∷ (showsPart (and-record ++ and-record) equ-record (1 ∷ 0 ∷ 0 ∷ []), inDepots 0)
+    ∷ (showsPart (and-record ++ and-record) equ-record (1 ∷ 1 ∷ 1 ∷ []), record { depots = false; start = 0; size = 0 })
     ∷ [])
-unfolding recordPart
+unfolding boxesCheck makerCheck depotCheck countCheck recordCheck listCheck
+    recordCount lowest bad kindOf placesOf boxAt boxesOf noKind lacksZ twoEqual recFrom recordAt isRule
+    isIn meaning breaks isBroken firstBroken testJudges testSays recordPart showsPart
 part-limits = refl
 
--- a box settled out, one settled in, and an open one: with no rule, and with box 0 = box 2
+-- its bytes
+pub bytes-limits :
+    Agree
+    ((bytesOf (same-record ++ and-record) equ-record (inMakers 8), and-record)
+    ∷ (bytesOf and-record (same-record ++ equ-record) (inDepots 8), equ-record)
+    ∷ [])
+unfolding bytesOf
+bytes-limits = refl
+
+-- a box settled out, one settled in, and an open one: with no rule, with box 0 = box 2, and where box 2 is settled against it
 pub kit-limits :
     Agree
     ((kits [] [] (0 ∷ 1 ∷ 2 ∷ []), (0 ∷ 1 ∷ 0 ∷ []) ∷ (0 ∷ 1 ∷ 1 ∷ []) ∷ [])
@@ -167,3 +259,20 @@ pub kit-limits :
     ∷ [])
 unfolding kits keeps fitsAll rulesIn isRule recordCount recordAt recFrom kindOf boxAt isIn meaning breaks
 kit-limits = refl
+
+-- the list handed out needs both tables
+pub list-limits :
+    Agree
+    ((firstWrites and-record equ-record (1 ∷ 2 ∷ 2 ∷ []) (7 ∷ 8 ∷ 9 ∷ []), 1 ∷ 1 ∷ 1 ∷ [])
+    ∷ (nextWrites and-record equ-record (2 ∷ 2 ∷ 2 ∷ []) (0 ∷ 1 ∷ 0 ∷ []) (7 ∷ 8 ∷ 9 ∷ []), 1 ∷ 1 ∷ 1 ∷ [])
+    ∷ [])
+unfolding boxesCheck makerCheck depotCheck countCheck recordCheck sheetCheck givenCheck outCheck listCheck noneCheck
+    recordCount lowest bad kindOf placesOf boxAt boxesOf noKind lacksZ twoEqual recFrom recordAt rulesIn isRule
+    isIn meaning breaks kits keeps fitsAll kitsAfter isNone headOf firstSays firstWrites nextSays nextWrites
+list-limits = refl
+
+-- the first entries of each kind, and the last but one of NOT
+pub entry-limits :
+    Agree ((outcome 0, 0) ∷ (outcome 64, 60) ∷ (outcome 126, 62) ∷ (outcome 128, 0) ∷ (outcome 192, 0) ∷ (outcome 193, 63) ∷ [])
+unfolding kindOf rulesOf boxAt holds has names gives follows code round closed recordOf statesOf packed outcome
+entry-limits = refl

@@ -22,12 +22,12 @@ loop-holds : tie.Need-loop-holds Inv-loop μ-loop
 unfolding printed
 loop-holds c = (omega arith, record { kept = refl; room = omega arith; below = omega arith; lines = refl })
 
-entry-requires : tie.Need-entry-requires Inv-loop μ-loop
-entry-requires c κs = omega arith
+kth-requires : tie.Need-kth-requires Inv-loop μ-loop
+kth-requires c κs = omega arith
 
 put-line-requires : tie.Need-put-line-requires Inv-loop μ-loop
 put-line-requires c κs =
-    let entry = c .before .entry in
+    let entry = c .before .kth in
     omega (
       arith,
       line-short (entry .result) (omega (arith, entry .ensures, entry-below (c .before .before .before .loop .k) (omega arith))),
@@ -44,7 +44,7 @@ loop-again c =
     let put = c .before .before in
     let entered = put .before .before in
     let front = entered .before .before .loop .inv .1 in
-    (omega arith, line-added (omega arith) front (put .put-line .ensures) (entered .entry .ensures))
+    (omega arith, line-added (omega arith) front (put .put-line .ensures) (entered .kth .ensures))
 
 same-length : tie.Need-same-length Inv-loop μ-loop
 same-length c = c .before .loop .inv .1 .kept
@@ -64,7 +64,7 @@ put-table-spec =
     Inv-loop
     μ-loop
     loop-holds
-    entry-requires
+    kth-requires
     put-line-requires
     add-k
     loop-less
