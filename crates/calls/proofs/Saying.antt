@@ -6,11 +6,11 @@ use Prim.Native.Nat.{ℕ}
 use native.Mathlib.Decide.{ℕ-discrete}
 use native.Mathlib.Omega.{arith}
 use borrow.Author.Tests.{eq-eqb, ne-eqb}
-use Rattle.spec.specs.Refusals.{Said, refused, numbered, answered}
+use Rattle.spec.specs.Refusals.{Said}
 use Rattle.spec.specs.Fits.{Verdict, fits, broken}
 use Rattle.text.specs.Spelling.{ascii, field}
 use Rattle.refusals.specs.declared.Numbers.{Numbers}
-use Rattle.refusals.specs.Numbering.{doneWith, numbersOf, inOrder}
+use Rattle.refusals.specs.Telling.{doneWith, numbersOf, inOrder}
 use Rattle.refusals.proofs.Told.{OwnCodes, told-refused, told-answered}
 use Rattle.fits.specs.Answer.{verdictNumbers}
 use Rattle.fits.proofs.Unique.{verdict-codes}
@@ -43,9 +43,13 @@ module _ (n : Numbers) where
 
   -- 2 stands for a broken record alone
   pub tested-broken : (s : Said Verdict) → inOrder n ≡ numbersOf verdictNumbers s → n .code ≡ 2 → field "broken " (n .first) ≡ wordsOf verdictWords s
-  tested-broken (refused (numbered number place)) e c = let z : _≡_ {A = ℕ} 1 2 = cc in absurd (omega arith)
-  tested-broken (answered fits) e c = let z : _≡_ {A = ℕ} 0 2 = cc in absurd (omega arith)
-  tested-broken (answered (broken number)) e c = let same : n .first ≡ number = cc in ap (field "broken ") same
+  tested-broken s e c =
+      let told = told-answered verdictNumbers verdict-codes n s e (λ one. omega arith) in
+      rw (told .1) (named (told .0) (told .2))
+    where
+      named : (v : Verdict) → inOrder n ≡ verdictNumbers v → field "broken " (n .first) ≡ verdictWords v
+      named fits f = let z : _≡_ {A = ℕ} 0 2 = cc in absurd (omega arith)
+      named (broken number) f = let same : n .first ≡ number = cc in ap (field "broken ") same
 
   pub tested-words : (s : Said Verdict) → inOrder n ≡ numbersOf verdictNumbers s → (n .code ≡ 2 → ⊥) →
       numbersWords n (ascii "fits") ≡ wordsOf verdictWords s

@@ -7,7 +7,7 @@ use lib.Dec.{eqb}
 use Rattle.spec.specs.Refusals.{Said, refused, answered}
 use Rattle.text.specs.Spelling.{ascii, hexOf}
 use Rattle.refusals.specs.declared.Numbers.{Numbers}
-use Rattle.refusals.specs.Words.{refusedWords, refusalIn}
+use Rattle.refusals.specs.Telling.{refusedWords, refusalIn}
 
 -- with `own` for the words of the operation's own kind of answer
 abbrev pub wordsOf : {A : Type 0} → (own : A → List ℕ) → Said A → List ℕ

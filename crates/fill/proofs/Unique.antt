@@ -8,7 +8,7 @@ use Prim.Native.Nat.{ℕ}
 use native.Mathlib.Omega.{arith}
 use lib.Dec.{eqb}
 use Rattle.spec.specs.Refusals.{Said, refused, answered}
-use Rattle.refusals.specs.Numbering.{doneWith, numbersOf}
+use Rattle.refusals.specs.Telling.{doneWith, numbersOf}
 use Rattle.refusals.proofs.OfForm.{backOf, back-form, answer-unique}
 use Rattle.refusals.proofs.Told.{OwnCodes, told-unique}
 use Rattle.fill.specs.declared.Filled.{Filled}

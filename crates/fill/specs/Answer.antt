@@ -7,7 +7,7 @@ use Rattle.spec.specs.Records.{rulesIn}
 use Rattle.spec.specs.Facts as facts
 use Rattle.spec.specs.Refusals.{reason, Said, refused, answered, written, Does}
 use Rattle.spec.specs.Fill.{closureOf, fillJudges, fillSays, fillWrites}
-use Rattle.refusals.specs.Refusing.{refusalOf}
+use Rattle.refusals.specs.Telling.{refusalOf}
 use Rattle.fill.specs.declared.Filled.{Filled}
 use Rattle.fill.specs.declared.Filled.the-variants.{Boxes, Clash, Broken, Refused}
 

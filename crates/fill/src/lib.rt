@@ -2,7 +2,7 @@
 ghost use mathlib.Core.Path.{_≡_};
 ghost use lib.ListN.{length};
 ghost use Rattle.spec.proofs.Accepted.{WholeRecords, AcceptedSheet};
-ghost use Rattle.refusals.specs.Numbering.{doneWith, numbersOf, inOrder};
+ghost use Rattle.refusals.specs.Telling.{doneWith, numbersOf, inOrder};
 ghost use Rattle.fill.specs.Answer.{filledSays, FillsTo, FillDoes, FillDoesInForm};
 use accept::Form;
 use accept::check_order;

@@ -9,7 +9,7 @@ use native.Mathlib.Omega.{arith}
 use denote.Ref.{RefT, now, ptr}
 use Rattle.spec.specs.Refusals.{Said, refused, answered}
 use Rattle.spec.specs.Fits.{Verdict, fits, broken, Part}
-use Rattle.refusals.specs.Numbering.{numbersOf}
+use Rattle.refusals.specs.Telling.{numbersOf}
 use Rattle.refusals.proofs.OfForm.{backOf, back-form}
 use Rattle.refusals.proofs.Told.{OwnCodes, told-unique}
 use Rattle.fits.specs.declared.Tested.{Tested}

@@ -7,8 +7,7 @@ use Prim.Native.Nat.{ℕ, _+_}
 use denote.Ref.{RefT, now, ptr}
 use Rattle.spec.specs.Refusals.{Said, refused, answered}
 use Rattle.spec.specs.Fits.{Verdict, fits, broken, Part, bytesOf}
-use Rattle.refusals.specs.Refusing.{refusalOf}
-use Rattle.refusals.specs.Numbering.{doneWith}
+use Rattle.refusals.specs.Telling.{refusalOf, doneWith}
 use Rattle.fits.specs.declared.Tested.{Tested}
 use Rattle.fits.specs.declared.Tested.the-variants.{Fits, Broken, Refused}
 

@@ -2,7 +2,7 @@
 ghost use mathlib.Core.Path.{_≡_};
 ghost use Rattle.spec.specs.Fits.{testJudges, testSays, partFor, showsPart};
 ghost use Rattle.spec.proofs.Accepted.{Accepted};
-ghost use Rattle.refusals.specs.Numbering.{numbersOf, inOrder};
+ghost use Rattle.refusals.specs.Telling.{numbersOf, inOrder};
 ghost use Rattle.fits.specs.Answer.{testedSays, verdictNumbers, Shows};
 use accept::Form;
 use accept::check_test;

@@ -6,7 +6,7 @@ use mathlib.Core.List.{List}
 use Prim.Native.Nat.{ℕ}
 use native.Mathlib.Omega.{arith}
 use Rattle.spec.specs.Refusals.{Said, refused, answered}
-use Rattle.refusals.specs.Numbering.{numbersOf}
+use Rattle.refusals.specs.Telling.{numbersOf}
 use Rattle.refusals.proofs.OfForm.{backOf, back-form, answer-unique}
 use Rattle.refusals.proofs.Told.{OwnCodes, told-unique}
 use Rattle.lists.specs.declared.Listed.{Listed}

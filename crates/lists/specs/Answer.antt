@@ -9,8 +9,7 @@ use Rattle.spec.specs.Refusals.{reason, Said, refused, Does}
 use Rattle.spec.specs.Kits.{handedOut, firstSays, firstWrites, nextSays, nextWrites}
 use Rattle.kits.specs.Order.{AnswerTo}
 use Rattle.kits.specs.Kit.{Wanted}
-use Rattle.refusals.specs.Refusing.{refusalOf}
-use Rattle.refusals.specs.Numbering.{doneWith}
+use Rattle.refusals.specs.Telling.{refusalOf, doneWith}
 use Rattle.lists.specs.declared.Listed.{Listed}
 use Rattle.lists.specs.declared.Listed.the-variants as listed
 

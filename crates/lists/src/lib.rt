@@ -4,7 +4,7 @@ ghost use mathlib.Core.Bool.{true};
 ghost use lib.ListN.{length};
 ghost use Rattle.spec.specs.Refusals.{isAnswered};
 ghost use Rattle.spec.proofs.Accepted.{AcceptedSheet};
-ghost use Rattle.refusals.specs.Numbering.{numbersOf, inOrder};
+ghost use Rattle.refusals.specs.Telling.{numbersOf, inOrder};
 ghost use Rattle.lists.specs.Answer.{listedSays, handedNumbers, FirstDoes, NextDoes, Chosen};
 use accept::Form;
 use accept::check_next;

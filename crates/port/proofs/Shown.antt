@@ -5,22 +5,28 @@ use mathlib.Core.Bool.{Bool, true, false}
 use mathlib.Core.List.{List, [], _∷_}
 use Prim.Native.Nat.{ℕ, _*_, _<_}
 use native.Mathlib.Omega.{arith}
-use Rattle.spec.specs.Refusals.{Said, refused, numbered, answered}
+use Rattle.spec.specs.Refusals.{Said, answered}
 use Rattle.spec.specs.Fits.{Verdict, fits, broken, testSays, recordPart, partFor, showsPart}
 use Rattle.spec.proofs.Broken.{broken-is}
 use Rattle.spec.proofs.Shown.{shown-empty}
 use Rattle.refusals.specs.declared.Numbers.{Numbers}
-use Rattle.refusals.specs.Numbering.{numbersOf, inOrder}
+use Rattle.refusals.specs.Telling.{numbersOf, inOrder}
 use Rattle.records.specs.declared.Where.{Where}
 use Rattle.records.specs.Record.{partOf}
+use Rattle.refusals.proofs.Told.{told-answered}
 use Rattle.fits.specs.Answer.{verdictNumbers}
+use Rattle.fits.proofs.Unique.{verdict-codes}
 use Rattle.port.specs.Face.{threeOfPart}
 
 -- 2 stands for a broken record alone
 code-broken : (n : Numbers) (s : Said Verdict) → inOrder n ≡ numbersOf verdictNumbers s → n .code ≡ 2 → s ≡ answered (broken (n .first))
-code-broken n (refused (numbered number place)) e c = let z : _≡_ {A = ℕ} 1 2 = cc in absurd (omega arith)
-code-broken n (answered fits) e c = let z : _≡_ {A = ℕ} 0 2 = cc in absurd (omega arith)
-code-broken n (answered (broken number)) e c = cc
+code-broken n s e c =
+    let told = told-answered verdictNumbers verdict-codes n s e (λ one. omega arith) in
+    told .1 ∙ ap answered (named (told .0) (told .2))
+  where
+    named : (v : Verdict) → inOrder n ≡ verdictNumbers v → v ≡ broken (n .first)
+    named fits f = let z : _≡_ {A = ℕ} 0 2 = cc in absurd (omega arith)
+    named (broken number) f = let same : number ≡ n .first = cc in ap broken same
 
 module _ (n : Numbers) (maker depot l : List ℕ) (e : inOrder n ≡ numbersOf verdictNumbers (testSays maker depot l)) where
   pub part-none : (n .code ≡ 2 → ⊥) → 0 ∷ 0 ∷ 0 ∷ [] ≡ threeOfPart (showsPart maker depot l)

@@ -11,7 +11,7 @@ ghost use Rattle.spec.specs.Refusals.{Does};
 ghost use Rattle.spec.specs.Fits.{testSays, showsPart};
 ghost use Rattle.spec.specs.Fill.{fillSays, fillWrites};
 ghost use Rattle.spec.specs.Kits.{firstSays, firstWrites, nextSays, nextWrites};
-ghost use Rattle.refusals.specs.Numbering.{numbersOf, doneWith};
+ghost use Rattle.refusals.specs.Telling.{numbersOf, doneWith};
 ghost use Rattle.fits.specs.Answer.{verdictNumbers};
 ghost use Rattle.lists.specs.Answer.{handedNumbers};
 ghost use Rattle.port.specs.Face.{threeOfPart};

@@ -13,7 +13,7 @@ use Rattle.spec.proofs.Judge.{does-unique}
 use Rattle.refusals.specs.declared.Refusal.{Refusal}
 use Rattle.refusals.specs.declared.Refusal.the-variants.{BoxCount, MakerLength, DepotLength, RecordCount, BadRecord, SheetByte, GivenLength}
 use Rattle.refusals.specs.declared.Refusal.the-variants.{OutLength, ListByte}
-use Rattle.refusals.specs.Refusing.{refusalOf}
+use Rattle.refusals.specs.Telling.{refusalOf}
 
 abbrev pub numberOf : Numbered → ℕ
 numberOf (numbered number place) = number

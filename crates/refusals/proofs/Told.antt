@@ -7,8 +7,7 @@ use native.Mathlib.Omega.{arith}
 use lib.ListN.{getD}
 use Rattle.spec.specs.Refusals.{Refusal, numbered, Said, refused, answered}
 use Rattle.refusals.specs.declared.Numbers.{Numbers}
-use Rattle.refusals.specs.Numbering.{refusedNumbers, numbersOf, inOrder}
-use Rattle.refusals.specs.Words.{refusalIn}
+use Rattle.refusals.specs.Telling.{refusedNumbers, numbersOf, inOrder, refusalIn}
 
 -- what is told of one answer is told of another that is the same
 pub told : {A : Type 0} (tells : A → List ℕ) {l : List ℕ} {a b : A} → a ≡ b → l ≡ tells b → l ≡ tells a

@@ -1,3 +1,1 @@
-pub mod Refusing
-pub mod Numbering
-pub mod Words
+pub mod Telling

@@ -7,9 +7,7 @@ ghost use Prim.Native.Nat.{_+_, _≤_};
 ghost use lib.ListN.{length};
 ghost use Rattle.text.specs.Putting.{PutWithin};
 ghost use Rattle.spec.specs.Refusals.{reason};
-ghost use Rattle.refusals.specs.Refusing.{refusalOf};
-ghost use Rattle.refusals.specs.Numbering.{refusedNumbers, doneWith, inOrder};
-ghost use Rattle.refusals.specs.Words.{refusalIn, refusedWords};
+ghost use Rattle.refusals.specs.Telling.{refusalOf, refusedNumbers, doneWith, inOrder, refusalIn, refusedWords};
 use text::put_field;
 
 pub enum Refusal {

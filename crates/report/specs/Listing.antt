@@ -11,7 +11,7 @@ use Rattle.spec.specs.Records.{recordCount}
 use Rattle.spec.specs.Refusals.{Refusal, Said, refused, answered}
 use Rattle.spec.specs.Fill.{openCount, fillSays, fillWrites}
 use Rattle.spec.specs.Kits.{kits}
-use Rattle.refusals.specs.Words.{refusedWords}
+use Rattle.refusals.specs.Telling.{refusedWords}
 
 -- Fill refuses
 unfoldable pub refusedLine : Refusal → List ℕ

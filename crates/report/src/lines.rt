@@ -3,7 +3,7 @@ ghost use Prim.Native.Nat.{ℕ, _+_, _≤_, _<_};
 ghost use lib.ListN.{length, getD};
 ghost use Rattle.text.specs.Spelling.{ascii};
 ghost use Rattle.text.specs.Putting.{Put, PutWithin};
-ghost use Rattle.refusals.specs.Words.{refusalIn};
+ghost use Rattle.refusals.specs.Telling.{refusalIn};
 ghost use Rattle.report.specs.Listing.{refusedLine, headerLine, listLine, endLine};
 use refusals::Numbers;
 use text::put_byte;

@@ -2,7 +2,7 @@
 -- Assumes nothing.
 use mathlib.Core.List.{List}
 use Prim.Native.Nat.{ℕ}
-use Rattle.refusals.specs.Numbering.{doneWith, numbersOf}
+use Rattle.refusals.specs.Telling.{doneWith, numbersOf}
 use Rattle.refusals.proofs.Told.{told}
 use Rattle.fill.specs.declared.Filled.{Filled}
 use Rattle.fill.specs.Answer.{filledSays}

@@ -1,6 +1,6 @@
 -- `port::angatupyi_fill` meets its contract: Fill's answer, as its numbers, and what Fill writes.
 -- Assumes nothing.
-use Rattle.refusals.specs.Numbering.{doneWith}
+use Rattle.refusals.specs.Telling.{doneWith}
 use Rattle.port.proofs.Answered.{does-told}
 use borrow.Author.Needs.{needs}
 use Rattle.port.proofs.angatupyi_fill.Statement.{statement}

@@ -3,7 +3,7 @@
 use mathlib.Core.Path.{_≡_, _∙_, ap}
 use native.Mathlib.Omega.{arith}
 use Rattle.spec.specs.Fits.{testSays}
-use Rattle.refusals.specs.Numbering.{numbersOf, inOrder}
+use Rattle.refusals.specs.Telling.{numbersOf, inOrder}
 use Rattle.fits.specs.Answer.{verdictNumbers}
 use Rattle.port.proofs.Shown.{part-none, part-below, part-makers, part-depots}
 use borrow.Author.Needs.{needs}

@@ -1,7 +1,7 @@
 -- `port::angatupyi_test` meets its contract: Test's answer, as its numbers.
 -- Assumes nothing.
 use mathlib.Core.Path.{_∙_, ap}
-use Rattle.refusals.specs.Numbering.{numbersOf}
+use Rattle.refusals.specs.Telling.{numbersOf}
 use Rattle.fits.specs.Answer.{verdictNumbers}
 use borrow.Author.Needs.{needs}
 use Rattle.port.proofs.angatupyi_test.Statement.{statement}

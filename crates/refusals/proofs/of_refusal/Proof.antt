@@ -3,8 +3,7 @@
 use mathlib.Core.List.{List}
 use Prim.Native.Nat.{ℕ}
 use Rattle.refusals.specs.declared.Refusal.{Refusal}
-use Rattle.refusals.specs.Refusing.{refusalOf}
-use Rattle.refusals.specs.Numbering.{refusedNumbers}
+use Rattle.refusals.specs.Telling.{refusalOf, refusedNumbers}
 use Rattle.refusals.proofs.Told.{told}
 use borrow.Author.Needs.{needs}
 use Rattle.refusals.proofs.of_refusal.Statement.{statement}

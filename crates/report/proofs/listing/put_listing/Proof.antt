@@ -8,8 +8,7 @@ use borrow.Author.Needs.{needs}
 use Rattle.spec.specs.Refusals.{refused, answered}
 use Rattle.spec.specs.Kits.{kits}
 use Rattle.text.proofs.Rooms.{room-then, room-within, room-length}
-use Rattle.refusals.specs.Numbering.{doneWith, inOrder}
-use Rattle.refusals.specs.Words.{refusalIn}
+use Rattle.refusals.specs.Telling.{doneWith, inOrder, refusalIn}
 use Rattle.refusals.proofs.Told.{told-refused, told-answered}
 use Rattle.fill.specs.Answer.{filledSays}
 use Rattle.fill.proofs.Unique.{count-codes}
