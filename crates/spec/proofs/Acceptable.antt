@@ -5,19 +5,19 @@
 -- Assumes nothing.
 use mathlib.Core.Path.{_≡_, refl}
 use mathlib.Core.Bool.{Bool, true, false}
-use mathlib.Core.List.{List, [], _∷_, _++_, map}
+use mathlib.Core.List.{List, [], _∷_, _++_, map, List·Memᴰ·not-nil}
 use Prim.Native.Nat.{ℕ}
+use lib.Dec.{T}
 use lib.ListN.{replicate}
 use Rattle.lemmas.specs.Lowest.{lowest}
 use Rattle.spec.specs.Kinds.{kindOf, placesOf, meaning}
 use Rattle.spec.specs.Rules.{rulesOf}
 use Rattle.spec.specs.Records.{Rec, recFrom, recordAt, isRule, rulesIn, boxAt, boxesOf, noKind, lacksZ, twoEqual, bad, recordCount}
-use Rattle.spec.specs.Facts.{holds}
+use Rattle.spec.specs.Facts.{holds, Closure, settled, fires, Clash}
 use Rattle.spec.specs.Rounds.{has, names, gives, follows, code, round, closed}
-use Rattle.spec.specs.Refusals.{Said, reason, refused, answered, passed, Check, judge, boxesCheck, makerCheck, depotCheck, countCheck}
-use Rattle.spec.specs.Refusals.{recordCheck, sheetCheck, givenCheck, outCheck, listCheck}
-use Rattle.spec.specs.Fits.{isIn, breaks, isBroken, firstBroken, Verdict, fits, broken, testJudges, testSays, Part, recordPart, showsPart}
-use Rattle.spec.specs.Fits.{bytesOf}
+use Rattle.spec.specs.Refusals.{numbered, Said, reason, refused, answered, isAnswered, passed, Check, judge}
+use Rattle.spec.specs.Refusals.{boxesCheck, makerCheck, depotCheck, countCheck, recordCheck, sheetCheck, givenCheck, outCheck, listCheck}
+use Rattle.spec.specs.Fits.{isIn, breaks, isBroken, firstBroken, fits, broken, testJudges, testSays, Part, recordPart, showsPart, bytesOf}
 use Rattle.spec.specs.Fill.{closureOf, clashes, openCount, clashCheck, brokenCheck, fillJudges, fillSays, fillWrites}
 use Rattle.spec.specs.Kits.{fullLists, keeps, fitsAll, kits, kitsAfter, isNone, headOf, noneCheck, firstSays, firstWrites, nextSays, nextWrites}
 use Rattle.spec.specs.OneRule.{recordOf, statesOf, packed, outcome}
@@ -83,6 +83,13 @@ pub truth-limits :
 unfolding kindOf meaning boxAt isIn breaks
 truth-limits = refl
 
+-- a refusal is its number and its place, in this order, and no answer
+pub reason-limits : Agree ((reason 1 2, numbered 1 2) ∷ [])
+reason-limits = refl
+
+pub answered-limits : Agree ((isAnswered {A = Unit {0}} (refused (reason 1 2)), false) ∷ (isAnswered passed, true) ∷ [])
+answered-limits = refl
+
 -- what is said where this check is the only one
 abbrev said : Check → Said (Unit {0})
 said c = judge (c ∷ []) passed
@@ -137,6 +144,16 @@ pub closed-limits :
     ∷ [])
 unfolding kindOf rulesOf boxAt holds has names gives follows code round closed
 closed-limits = refl
+
+-- with no rules the closure has the sheet's facts alone
+closure-bare : {s : List ℕ} {b : ℕ} {state : Bool} → Closure [] s b state → T (holds s b state)
+closure-bare (settled t) = t
+closure-bare (fires q m r n p l c) = absurd (List·Memᴰ·not-nil m)
+
+-- one fact is no clash, whether in or out
+pub clash-limits : (Clash [] (1 ∷ []) 0 → ⊥) × (Clash [] (0 ∷ []) 0 → ⊥)
+unfolding holds
+clash-limits = (λ c. closure-bare (c .0), λ c. closure-bare (c .1))
 
 -- the refusal alone, whatever the operation's answer
 abbrev form : {A : Type 0} → Said A → Said (Unit {0})
