@@ -19,7 +19,7 @@ use Rattle.spec.specs.Refusals.{numbered, Said, reason, refused, answere
 use Rattle.spec.specs.Refusals.{boxesCheck, makerCheck, depotCheck, countCheck, recordCheck, sheetCheck, givenCheck, outCheck, listCheck}
 use Rattle.spec.specs.Fits.{isIn, breaks, isBroken, firstBroken, fits, broken, testJudges, testSays, Part, recordPart, showsPart, bytesOf}
 use Rattle.spec.specs.Fill.{closureOf, clashes, openCount, clashCheck, brokenCheck, fillJudges, fillSays, fillWrites}
-use Rattle.spec.specs.Kits.{fullLists, keeps, fitsAll, kits, kitsAfter, isNone, headOf, noneCheck, firstSays, firstWrites, nextSays, nextWrites}
+use Rattle.spec.specs.Kits.{fullLists, before, keeps, fitsAll, kits, kitsAfter, isNone, headOf, noneCheck, firstSays, firstWrites, nextSays, nextWrites}
 use Rattle.spec.specs.OneRule.{recordOf, statesOf, packed, outcome}
 use Rattle.spec.proofs.Samples.{and-record, equ-record, same-record, not-record}
 
@@ -96,7 +96,7 @@ said c = judge (c ∷ []) passed
 
 -- 256 and 257 boxes; lengths 16 and 15; 1,024 and 1,025 records in both tables; a bad record in either table; sheet bytes 2 and 3;
 -- lengths 2, 1 and 3 for n = 2; list bytes 1 and 2. Then 7, 8 and 9, on lists made by hand: a box with both facts; a list with no open
--- box that breaks record 1, record 0, none, and one with an open box; no list and a list
+-- box that breaks record 1, both, record 0 alone, record 2 of either split, none, and one with an open box; no list and a list
 pub check-limits :
     Agree
     ((said (boxesCheck 256), passed)
@@ -124,6 +124,9 @@ pub check-limits :
     ∷ (said (clashCheck (0 ∷ 1 ∷ 3 ∷ [])), refused (reason 7 0))
     ∷ (said (brokenCheck and-record equ-record (1 ∷ 0 ∷ 0 ∷ [])), refused (reason 8 1))
     ∷ (said (brokenCheck and-record equ-record (1 ∷ 1 ∷ 0 ∷ [])), refused (reason 8 0))
+    ∷ (said (brokenCheck and-record equ-record (1 ∷ 0 ∷ 1 ∷ [])), refused (reason 8 0))
+    ∷ (said (brokenCheck (and-record ++ and-record) equ-record (1 ∷ 0 ∷ 0 ∷ [])), refused (reason 8 2))
+    ∷ (said (brokenCheck and-record (and-record ++ equ-record) (1 ∷ 0 ∷ 0 ∷ [])), refused (reason 8 2))
     ∷ (said (brokenCheck and-record equ-record (1 ∷ 1 ∷ 1 ∷ [])), passed)
     ∷ (said (brokenCheck and-record equ-record (1 ∷ 0 ∷ 2 ∷ [])), passed)
     ∷ (said (noneCheck []), refused (reason 9 0))
@@ -161,13 +164,16 @@ form (refused why) = refused why
 form (answered answer) = passed
 
 -- where several checks apply the first is given. Test with too many boxes and a cut table; both tables cut; the depot's cut and a bad
--- record; 1,025 bad records; a bad record in the depot and a list byte; a list byte
+-- record; the depot's cut and 1,025 records; 1,025 bad records, in both tables and in the depot's; a bad record in the depot and a list
+-- byte; a list byte
 pub test-order :
     Agree
     ((form (testSays (3 ∷ []) (3 ∷ []) (replicate 257 2)), refused (reason 1 0))
     ∷ (form (testSays (3 ∷ []) (3 ∷ []) (2 ∷ [])), refused (reason 2 0))
     ∷ (form (testSays (replicate 8 0) (3 ∷ []) (2 ∷ [])), refused (reason 2 1))
+    ∷ (form (testSays (replicate 8200 0) (3 ∷ []) (2 ∷ [])), refused (reason 2 1))
     ∷ (form (testSays (replicate 8192 0) (replicate 8 0) (2 ∷ [])), refused (reason 2 2))
+    ∷ (form (testSays [] (replicate 8200 0) (2 ∷ [])), refused (reason 2 2))
     ∷ (form (testSays same-record (replicate 8 0) (0 ∷ 2 ∷ [])), refused (reason 3 1))
     ∷ (form (testSays [] [] (0 ∷ 2 ∷ [])), refused (reason 6 1))
     ∷ [])
@@ -224,12 +230,13 @@ unfolding boxesCheck makerCheck depotCheck countCheck recordCheck sheetCheck giv
     recordCount lowest fillSays fillWrites firstSays firstWrites nextSays nextWrites
 kept-limits = refl
 
--- two records in the maker's table, one in the depot's: which is broken
+-- two records in the maker's table, one in the depot's: which is broken; then one and two
 pub verdict-limits :
     Agree
     ((testSays (and-record ++ and-record) equ-record (1 ∷ 1 ∷ 0 ∷ []), answered (broken 0))
     ∷ (testSays (and-record ++ and-record) equ-record (1 ∷ 0 ∷ 0 ∷ []), answered (broken 2))
     ∷ (testSays (and-record ++ and-record) equ-record (1 ∷ 1 ∷ 1 ∷ []), answered fits)
+    ∷ (testSays and-record (and-record ++ equ-record) (1 ∷ 0 ∷ 0 ∷ []), answered (broken 2))
     ∷ [])
 unfolding boxesCheck makerCheck depotCheck countCheck recordCheck listCheck
     recordCount lowest bad kindOf placesOf boxAt boxesOf noKind lacksZ twoEqual recFrom recordAt isRule
@@ -242,7 +249,7 @@ inMakers start = record { depots = false; start = start; size = 8 }
 abbrev inDepots : ℕ → Part
 inDepots start = record { depots = true; start = start; size = 8 }
 
--- and where it lies: the last record of the maker's table and the first of the depot's; then by Show, of a broken record and where the
+-- and where it lies: the last record of the maker's table and the first of the depot's, the last of nine; then by Show, of a broken record and where the
 -- list fits
 pub part-limits :
     Agree
@@ -250,6 +257,7 @@ pub part-limits :
     ∷ (recordPart (replicate 16 0) 1, inMakers 8)
     ∷ (recordPart (replicate 16 0) 2, inDepots 0)
     ∷ (recordPart (replicate 16 0) 3, inDepots 8)
+    ∷ (recordPart (replicate 72 0) 8, inMakers 64)
     ∷ (showsPart (and-record ++ and-record) equ-record (1 ∷ 0 ∷ 0 ∷ []), inDepots 0)
     ∷ (showsPart (and-record ++ and-record) equ-record (1 ∷ 1 ∷ 1 ∷ []), record { depots = false; start = 0; size = 0 })
     ∷ [])
@@ -266,6 +274,18 @@ pub bytes-limits :
     ∷ [])
 unfolding bytesOf
 bytes-limits = refl
+
+-- lists that differ at the last box, at the middle one, at the first though not at the others, and nowhere
+pub before-limits :
+    Agree
+    ((before (0 ∷ 1 ∷ 0 ∷ []) (0 ∷ 1 ∷ 1 ∷ []), true)
+    ∷ (before (0 ∷ 1 ∷ 1 ∷ []) (0 ∷ 1 ∷ 0 ∷ []), false)
+    ∷ (before (0 ∷ 0 ∷ 1 ∷ []) (0 ∷ 1 ∷ 0 ∷ []), true)
+    ∷ (before (1 ∷ 0 ∷ 0 ∷ []) (0 ∷ 1 ∷ 1 ∷ []), false)
+    ∷ (before (0 ∷ 1 ∷ 1 ∷ []) (1 ∷ 0 ∷ 0 ∷ []), true)
+    ∷ (before (1 ∷ 0 ∷ 1 ∷ []) (1 ∷ 0 ∷ 1 ∷ []), false)
+    ∷ [])
+before-limits = refl
 
 -- a box settled out, one settled in, and an open one: with no rule, with box 0 = box 2, and where box 2 is settled against it
 pub kit-limits :
