@@ -1,5 +1,6 @@
 /* Times Fill, First and the first 65 lists on fixed kits, through the C face.
  * bench            times every kit
+ * bench growth     times Fill on chains of 64 to 1,024 records, in two orders
  * bench KIT WHAT   does one of fill, first, lists on that kit once, for counting calls
  */
 #include <stdio.h>
@@ -37,6 +38,11 @@ static void begin(kit *k, const char *name, size_t boxes) {
   memset(k->sheet, ANGATUPYI_OPEN, boxes);
 }
 
+static unsigned drawn(unsigned *seed, unsigned below) {
+  *seed = *seed * 1103515245u + 12345u;
+  return (*seed >> 16) % below;
+}
+
 /* 255 EQU, so ordered that a sweep through the records settles one box. */
 static void reversed_chain(kit *k) {
   begin(k, "chain", 256);
@@ -45,9 +51,20 @@ static void reversed_chain(kit *k) {
   k->sheet[0] = ANGATUPYI_IN;
 }
 
-static unsigned drawn(unsigned *seed, unsigned below) {
-  *seed = *seed * 1103515245u + 12345u;
-  return (*seed >> 16) % below;
+/* A chain of EQU with box 0 in: link 254 first, or in a drawn order. Where there are more records than links, each link stands as
+ * often as any other, one after the other. */
+static void chain(kit *k, unsigned records, int in_drawn_order) {
+  unsigned links = records < 255 ? records : 255, order[1024], seed = 3;
+  begin(k, in_drawn_order ? "drawn" : "back", links + 1);
+  for (unsigned i = 0; i < records; i++) order[i] = links - 1 - i * links / records;
+  for (unsigned i = records - 1; in_drawn_order && i > 0; i--) {
+    unsigned j = drawn(&seed, i + 1), link = order[i];
+    order[i] = order[j];
+    order[j] = link;
+  }
+  for (unsigned i = 0; i < records; i++) put_record(k, EQU, order[i], order[i] + 1, NONE);
+  k->makers = k->records;
+  k->sheet[0] = ANGATUPYI_IN;
 }
 
 /* 1,024 records, all true of one drawn list, half of them the depot's; `settled` boxes are settled as in that list. */
@@ -147,9 +164,24 @@ static double microseconds(const kit *k, int what) {
   return turns[5];
 }
 
+static void growth(void) {
+  static kit k;
+  for (int in_drawn_order = 0; in_drawn_order < 2; in_drawn_order++)
+    for (unsigned records = 64; records <= 1024; records *= 2) {
+      chain(&k, records, in_drawn_order);
+      double took = microseconds(&k, 0);
+      printf("%-6s %5u records %4u filled %8.2f us %6.1f ns a record\n", k.name, records, done(&k, 0), took, 1e3 * took / records);
+      fflush(stdout);
+    }
+}
+
 int main(int count, char **words) {
   static const char *whats[3] = {"fill", "first", "lists"};
   static kit kits[4];
+  if (count == 2 && !strcmp(words[1], "growth")) {
+    growth();
+    return 0;
+  }
   reversed_chain(&kits[0]);
   full_table(&kits[1], "full", 4);
   fleet(&kits[2]);

@@ -1,5 +1,7 @@
 // The checks of form: refusals 1 to 6, in the order of the paper's table. The first that applies is given.
 ghost use mathlib.Core.Path.{_≡_};
+ghost use mathlib.Core.Bool.{false};
+ghost use Prim.Native.Nat.{ℕ, _<_};
 ghost use lib.ListN.{length, getD};
 ghost use lib.Dec.{ltb};
 ghost use mathlib.Core.List.{_∷_, []};
@@ -39,10 +41,29 @@ fn first_bad<'a>(maker: &'a [u8], depot: &'a [u8], n: usize) -> usize
     i
 }
 
+// Whether a byte is above `top`. It looks at every byte, so that many are looked at at a time: on a good sheet that is all there is
+// to do.
+fn is_any_above(s: &[u8], top: u8) -> bool
+    ensures { λ r. ⌜ (r ≡ false → (b : ℕ) → b < length (now (s .entry)) → ltb top (getD (now (s .entry)) b 0) ≡ false) ⌝ }
+{
+    let mut found = false;
+    let mut i = 0;
+    while i < s.len() {
+        if top < s[i] {
+            found = true;
+        }
+        i += 1;
+    }
+    found
+}
+
 // The lowest byte above `top`, or the length where none is.
 fn first_above(s: &[u8], top: u8) -> usize
     ensures { λ r. ⌜ r ≡ lowest (λ b. ltb top (getD (now (s .entry)) b 0)) (length (now (s .entry))) ⌝ }
 {
+    if !is_any_above(s, top) {
+        return s.len();
+    }
     let mut i = 0;
     while i < s.len() {
         if top < s[i] {

@@ -1,2 +1,11 @@
+pub mod Rules
+pub mod Packing
+pub mod Linking
+pub mod Queueing
+pub mod Settled
 pub mod OneRecord
-pub mod Sweeps
+pub mod Waiting
+pub mod Running
+pub mod Sweeping
+pub mod Visiting
+pub mod Draining

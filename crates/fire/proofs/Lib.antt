@@ -2,3 +2,4 @@ pub mod Tree
 pub mod Agree
 pub mod Fired
 pub mod Table
+pub mod AtRest

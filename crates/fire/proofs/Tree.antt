@@ -62,10 +62,19 @@ trees = three ∷ equTree ∷ notTree ∷ andTree ∷ orTree ∷ []
 abbrev pub tree : ℕ → Step
 tree kind = getD trees kind three
 
--- a number that is no kind leaves the states as they are
-pub tree-none : (kind : ℕ) → (kind ≡ 1 → ⊥) → (kind ≡ 2 → ⊥) → (kind ≡ 3 → ⊥) → (kind ≡ 4 → ⊥) → tree kind ≡ three
-tree-none kind a b c d = at (decLt kind 5)
+-- the number is no kind, as the code's last arm has it
+abbrev NoKind : ℕ → Type 0
+NoKind kind = (((Unit {0} × (kind ≡ 1 → ⊥)) × (kind ≡ 2 → ⊥)) × (kind ≡ 3 → ⊥)) × (kind ≡ 4 → ⊥)
+
+-- what stands there in a list by the kinds' numbers
+pub number-none : {A : Type 0} (none equ not and or : A) (kind : ℕ) → NoKind kind →
+    getD (none ∷ equ ∷ not ∷ and ∷ or ∷ []) kind none ≡ none
+number-none none equ not and or kind differs = at (decLt kind 5)
   where
-    at : Dec (kind < 5) → tree kind ≡ three
+    at : Dec (kind < 5) → getD (none ∷ equ ∷ not ∷ and ∷ or ∷ []) kind none ≡ none
     at (yes l) = let e : kind ≡ 0 = omega arith in rw e
-    at (no l) = List·getD-eq-default trees three {n = kind} (omega arith)
+    at (no l) = List·getD-eq-default (none ∷ equ ∷ not ∷ and ∷ or ∷ []) none {n = kind} (omega arith)
+
+-- the states stay as they are
+pub tree-none : (kind : ℕ) → NoKind kind → tree kind ≡ three
+tree-none = number-none three equTree notTree andTree orTree

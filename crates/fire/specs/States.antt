@@ -1,9 +1,13 @@
 -- Three states as the code holds them, and what it is to have fired every rule of one record on them.
 -- Assumes nothing.
 use mathlib.Core.Path.{_≡_}
+use mathlib.Core.Bool.{cond}
 use mathlib.Core.List.{List, [], _∷_}
 use Prim.Native.Nat.{ℕ, _≤_}
 use Rattle.spec.specs.Rounds.{closed}
+use lib.ListN.{getD}
+use Rattle.spec.specs.Kinds.{kindOf}
+use Rattle.spec.specs.Records.{lacksZ}
 use Rattle.spec.specs.OneRule.{alone}
 use Rattle.fire.specs.declared.States.{States}
 
@@ -29,3 +33,13 @@ pub record Fired (kind x y z : ℕ) (r : States) : Type 0 where
   pub x-code : r .x ≤ 3
   pub y-code : r .y ≤ 3
   pub z-code : r .z ≤ 3
+
+-- nothing follows from the three states under a record of this kind alone; where it has no z, that is taken as open
+abbrev pub Rests : (kind x y z : ℕ) → Type 0
+Rests kind x y z =
+    let z′ = cond (lacksZ (kindOf kind)) 2 z in
+    closedAlone kind x y z′ ≡ three x y z′
+
+-- by the kind's number: bit 16x + 4y + z is 1 where something follows
+abbrev pub stirsAt : ℕ → ℕ
+stirsAt kind = getD (0 ∷ 511219009392 ∷ 511225890567 ∷ 2431007458918 ∷ 1456083370838 ∷ []) kind 0

@@ -2,7 +2,8 @@
 // AND 2 and the like are the rules' names in source document 000, Table 1. An arm `_` on a state is for open, and for OUT or IN
 // where they have no arm beside it.
 ghost use mathlib.Core.Path.{_≡_};
-ghost use Rattle.fire.specs.States.{three, listOf, OnSheet, closedAlone, Fired};
+ghost use mathlib.Core.Bool.{true};
+ghost use Rattle.fire.specs.States.{three, listOf, OnSheet, closedAlone, Fired, Rests, stirsAt};
 use records::kinds::AND;
 use records::kinds::EQU;
 use records::kinds::NOT;
@@ -162,4 +163,27 @@ pub fn fire(kind: u8, x: u8, y: u8, z: u8) -> States
         OR => fire_or(x, y, z),
         _ => States { x, y, z },
     }
+}
+
+// The states at which a rule of this kind gives something new, as bits: bit 16x + 4y + z for the states x, y, z. Of EQU and NOT the
+// state of z is of no matter.
+fn stirs(kind: u8) -> u64
+    ensures { λ r. ⌜ r ≡ stirsAt kind ⌝ }
+{
+    match kind {
+        EQU => 0x7707070770,
+        NOT => 0x7707700707,
+        AND => 0x23603560666,
+        OR => 0x15305550356,
+        _ => 0,
+    }
+}
+
+// Whether no rule of this kind gives anything new: so it is with most records, most of the time, and this look has no jumps.
+pub fn at_rest(kind: u8, x: u8, y: u8, z: u8) -> bool
+    requires { ⌜ OnSheet x y z ⌝ }
+    ensures { λ r. ⌜ (r ≡ true → Rests kind x y z) ⌝ }
+{
+    let bit = 16 * x + 4 * y + z;
+    (stirs(kind) >> bit) % 2 == 0
 }

@@ -8,7 +8,7 @@ use Prim.Native.Nat.{ℕ, zero, suc, _≤_, _<_}
 use native.Mathlib.Omega.{arith}
 use native.Mathlib.Decide.{decLt, ℕ-discrete}
 use lib.ListN.{length, getD, set}
-use lib.Seq.{getD-set-same, getD-set-other, set-out}
+use lib.Seq.{getD-set-same, getD-set-other}
 use Rattle.spec.specs.Records.{Rec}
 use Rattle.spec.specs.Kits.{before}
 use Rattle.kits.specs.Order.{AnswerTo}
@@ -16,15 +16,6 @@ use Rattle.kits.specs.Kit.{SettledBelow, OpenFrom, Kit, Wanted}
 use Rattle.kits.proofs.Order.{at-before, before-asym}
 use Rattle.kits.proofs.Answers.{answer-same}
 use Rattle.kits.proofs.Sheets.{kit-settled}
-
--- the sheet with one more box settled is a sheet
-pub set-sheet : (t : List ℕ) (b v : ℕ) → v ≤ 2 → ((c : ℕ) → getD t c 2 ≤ 2) → (c : ℕ) → getD (set t b v) c 2 ≤ 2
-set-sheet t b v small sheet c = at (ℕ-discrete c b) (decLt b (length t))
-  where
-    at : Dec (c ≡ b) → Dec (b < length t) → getD (set t b v) c 2 ≤ 2
-    at (no other) in′ = rw (getD-set-other t b c v 2 other) (sheet c)
-    at (yes same) (yes in′) = rw (same, getD-set-same t b v 2 in′) small
-    at (yes same) (no out) = rw (set-out t b v (omega arith)) (sheet c)
 
 pub set-past : (n : ℕ) (t : List ℕ) (b v : ℕ) → b < n → OpenFrom n t → OpenFrom n (set t b v)
 set-past n t b v below past c i = getD-set-other t b c v 2 (λ e. omega arith) ∙ past c i

@@ -6,9 +6,10 @@ use mathlib.Core.List.{List, [], _∷_}
 use Prim.Native.Nat.{ℕ, zero, suc, _<_}
 use native.Mathlib.Nat.{not-suc-le-zero, le-of-suc-le-suc}
 use native.Mathlib.Omega.{arith}
-use native.Mathlib.Decide.{decLt}
+use native.Mathlib.Decide.{ℕ-discrete, decLt}
 use lib.Dec.{T}
-use lib.ListN.{length, getD, List·getD-eq-default}
+use lib.ListN.{length, getD, set, List·getD-eq-default}
+use lib.Seq.{getD-set-same, getD-set-other, set-out}
 use Rattle.lemmas.specs.Lists.{all}
 use Rattle.lemmas.proofs.Tests.{both-left, both-right}
 
@@ -32,6 +33,16 @@ getD-each P l d e h past i = at (decLt i (length l))
     at : Dec (i < length l) → P (getD l i e)
     at (yes below) = rw (getD-default l i e d below) (h i below)
     at (no above) = rw (List·getD-eq-default l e {n = i} (omega arith)) past
+
+-- what holds of every element that is read, and of a new one, holds once that is written
+pub getD-set : {A : Type 0} (P : A → Type 0) (l : List A) (i : ℕ) (v d : A) → P v → ((j : ℕ) → P (getD l j d)) →
+    (j : ℕ) → P (getD (set l i v) j d)
+getD-set P l i v d new old j = at (ℕ-discrete j i) (decLt i (length l))
+  where
+    at : Dec (j ≡ i) → Dec (i < length l) → P (getD (set l i v) j d)
+    at (no other) in′ = rw (getD-set-other l i j v d other) (old j)
+    at (yes same) (yes in′) = rw (same, getD-set-same l i v d in′) new
+    at (yes same) (no out) = rw (set-out l i v (omega arith)) (old j)
 
 -- where something else is read than past the end, it is read before the end
 pub getD-within : {A : Type 0} (l : List A) (i : ℕ) (d : A) → (getD l i d ≡ d → ⊥) → i < length l

@@ -1,1 +1,4 @@
-pub mod Trial
+pub mod Choice
+pub mod Filled
+pub mod Start
+pub mod Trials

@@ -20,10 +20,14 @@ pub record LowestOpen (t : List ℕ) (n b : ℕ) : Type 0 where
 abbrev pub LessBelow : List ℕ → List ℕ → ℕ → Type 0
 LessBelow l k b = (c : ℕ) × (c < b) × LessAt l k c
 
+-- the two have the same states at the first b boxes
+abbrev pub SameBelow : ℕ → List ℕ → List ℕ → Type 0
+SameBelow b l k = (c : ℕ) → c < b → getD l c 2 ≡ getD k c 2
+
 -- the first b boxes of t stand before the given list, are the same, or stand past it; where none is to be passed, they are past
 abbrev pub Stands : List ℕ → List ℕ → ℕ → Bool → Standing → Type 0
 Stands t given b after Before = (after ≡ true) × LessBelow t given b
-Stands t given b after Same = (after ≡ true) × ((c : ℕ) → c < b → getD t c 2 ≡ getD given c 2)
+Stands t given b after Same = (after ≡ true) × SameBelow b t given
 Stands t given b after Past = (after ≡ false) ⊎ LessBelow given t b
 
 -- what follows has still to pass the given list
@@ -31,3 +35,8 @@ abbrev pub boundOf : Standing → Bool
 boundOf Before = false
 boundOf Same = true
 boundOf Past = false
+
+-- the given list has still to be passed, and has more than out at box b
+pub record PastOut (given : List ℕ) (b : ℕ) (bound : Bool) : Type 0 where
+  pub is-bound : bound ≡ true
+  pub more : 0 < getD given b 2

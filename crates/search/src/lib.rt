@@ -1,5 +1,5 @@
 // The search: it branches at the lowest position still open, out before in, with a fill after each choice. Each trial has a sheet
-// of its own.
+// of its own. The tables' index is made once, and after a choice filling goes on from the chosen box alone.
 mod look;
 
 ghost use mathlib.Core.Path.{_≡_};
@@ -8,10 +8,15 @@ ghost use lib.ListN.{take};
 ghost use Rattle.spec.specs.Records.{rulesIn};
 ghost use Rattle.kits.specs.Order.{AnswerTo};
 ghost use Rattle.kits.specs.Kit.{Wanted};
-ghost use Rattle.search.specs.Ready.{Ready};
-use engine::run;
+ghost use Rattle.engine.specs.Index.{packedRules};
+ghost use Rattle.search.specs.Ready.{Ready, TrialReady};
+use engine::go_on;
+use engine::index::link;
+use engine::index::pack;
+use engine::run_indexed;
 use look::Standing;
 use look::is_bound;
+use look::is_past_out;
 use look::lowest_open;
 use look::standing_to;
 use records::states::IN;
@@ -33,6 +38,53 @@ fn nothing(sheet: Sheet) -> Found
     }
 }
 
+// The first kit of a sheet on which only box `from` is settled since every rule was at rest, and no box below it is open; if `after`
+// the first strictly after the given list, which has the same states below `from`.
+fn trial(
+    packed: &[u8; 4096],
+    m: usize,
+    first: &[u16; 256],
+    next: &[u16; 4096],
+    n: usize,
+    sheet: Sheet,
+    from: usize,
+    given: &[u8],
+    after: bool,
+) -> Found
+    requires { ⌜ TrialReady (now packed) m (now first) (now next) n (sheet .states) from (now given) after ⌝ }
+    ensures { λ r. ⌜ AnswerTo (Wanted (packedRules (now (packed .entry)) m) n (sheet .states) after (now (given .entry)))
+        (r .found) (take n (r .sheet .states)) ⌝ }
+{
+    let mut states = sheet.states;
+    if go_on(packed, m, first, next, from, &mut states) {
+        return nothing(sheet);
+    }
+    let b = lowest_open(&states[..], from, n);
+    let standing = standing_to(&states[..], given, from, b, after);
+    if let Standing::Before = standing {
+        return nothing(sheet);
+    }
+    let bound = is_bound(standing);
+    if b == n {
+        return Found {
+            found: !bound,
+            sheet: Sheet { states },
+        };
+    }
+    // a list with b out would stand before the given one
+    if !is_past_out(given, b, bound) {
+        let here = Sheet { states };
+        let out_sheet = here.settled(b, OUT);
+        let answer = trial(packed, m, first, next, n, out_sheet, b, given, bound);
+        if answer.found {
+            return answer;
+        }
+    }
+    let here = Sheet { states };
+    let in_sheet = here.settled(b, IN);
+    trial(packed, m, first, next, n, in_sheet, b, given, bound)
+}
+
 // The first kit of the sheet, and if `after` the first strictly after the given list.
 pub fn search<'a>(
     maker: &'a [u8],
@@ -46,26 +98,15 @@ pub fn search<'a>(
     ensures { λ r. ⌜ AnswerTo (Wanted (rulesIn (now (maker .entry)) (now (depot .entry))) n (sheet .states) after (now (given .entry)))
         (r .found) (take n (r .sheet .states)) ⌝ }
 {
+    let mut packed = [0; 4096];
+    let mut first = [0; 256];
+    let mut next = [0; 4096];
+    let m = pack(maker, depot, &mut packed);
+    link(&packed, m, &mut first, &mut next);
     let mut states = sheet.states;
-    if run(maker, depot, &mut states) {
+    if run_indexed(maker, depot, &packed, m, &first, &next, &mut states) {
         return nothing(sheet);
     }
-    let b = lowest_open(&states[..], n);
-    let standing = standing_to(&states[..], given, b, after);
-    if let Standing::Before = standing {
-        return nothing(sheet);
-    }
-    let bound = is_bound(standing);
-    let here = Sheet { states };
-    if b == n {
-        return Found {
-            found: !bound,
-            sheet: here,
-        };
-    }
-    let first = search(maker, depot, n, here.settled(b, OUT), given, bound);
-    if first.found {
-        return first;
-    }
-    search(maker, depot, n, here.settled(b, IN), given, bound)
+    let filled = Sheet { states };
+    trial(&packed, m, &first, &next, n, filled, 0, given, after)
 }

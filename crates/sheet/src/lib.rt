@@ -53,11 +53,10 @@ pub fn count_filled(sheet: &[u8], filled: &[u8]) -> usize
     let mut n = 0;
     let mut b = 0;
     while b < sheet.len() {
-        if sheet[b] == OPEN {
-            if filled[b] != OPEN {
-                n += 1;
-            }
-        }
+        // as numbers: without a test in the loop, many boxes are counted at a time
+        let was_open = if sheet[b] == OPEN { 1 } else { 0 };
+        let is_settled = if filled[b] == OPEN { 0 } else { 1 };
+        n += was_open * is_settled;
         b += 1;
     }
     n

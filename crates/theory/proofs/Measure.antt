@@ -12,8 +12,8 @@ use lib.Seq.{getD-set-same, getD-set-other}
 use Rattle.lemmas.specs.Lists.{count, upto}
 use Rattle.lemmas.proofs.Reading.{getD-within}
 use Rattle.lemmas.proofs.Members.{upto-member}
-use Rattle.lemmas.proofs.Counts.{count-mono, count-less}
-use Rattle.lemmas.proofs.Indexed.{count-indexed}
+use Rattle.lemmas.proofs.Counts.{count-length, count-mono, count-less}
+use Rattle.lemmas.proofs.Indexed.{count-indexed, count-upto-below}
 use Rattle.spec.specs.Kinds.{Place, Z}
 use Rattle.spec.specs.Records.{Rec, boxAt}
 use Rattle.spec.specs.OneRule.{alone}
@@ -35,6 +35,17 @@ eq-open c e = rw e tt
 open-indexed : (s : List ℕ) → openCount s ≡ count (isOpen s) (upto (length s))
 unfolding openCount
 open-indexed s = count-indexed (eqb 2) 2 s
+
+-- at most every box is open, and where one is settled fewer are
+pub open-within : (s : List ℕ) → openCount s ≤ length s
+unfolding openCount
+open-within s = count-length (eqb 2) s
+
+pub open-fewer : (s : List ℕ) (b : ℕ) → b < length s → (getD s b 2 ≡ 2 → ⊥) → openCount s < length s
+open-fewer s b below settled =
+    let fewer =
+    count-less (isOpen s) (λ i. true) (λ c m h. tt) (upto-member below) (λ h. settled (sym (eqb→eq 2 (getD s b 2) h))) tt in
+    rw (open-indexed s) (omega (arith, fewer, count-upto-below (λ i. true) (length s)))
 
 module _ {qs : List Rec} {s t : List ℕ} (grown : Grown qs s t) (sheet : IsSheet s) where
   -- a settled box stays as it is

@@ -1,4 +1,4 @@
--- `engine::sweep` meets its contract: every record has its step, on the states that the ones before have left.
+-- `engine::sweep` meets its contract: every record has its step, on the states and the queue that the ones before have left.
 -- Assumes nothing.
 use mathlib.Core.Path.{_≡_, subst}
 use mathlib.Core.Logic.{⊎-elim}
@@ -8,20 +8,22 @@ use Prim.Native.Nat.{ℕ, _-_, _≤_, _<_}
 use native.Mathlib.Omega.{arith}
 use borrow.Author.Needs.{needs}
 use Rattle.spec.specs.Records.{Rec, isRule, recordAt, recordCount}
-use Rattle.engine.specs.Moves.{Cells, RecordStepped}
-use Rattle.engine.specs.declared.Move.{Move}
-use Rattle.engine.specs.declared.Move.the-variants.{Still, Moved, Clash}
-use Rattle.engine.proofs.Sweeps.{SoFar, StepAt, step-cells, sweep-start, sweep-still, sweep-moved, sweep-clash, sweep-rest}
+use Rattle.engine.specs.Queue.{Lent, StepInput, RecordStepped}
+use Rattle.engine.specs.declared.step.Move.{Move}
+use Rattle.engine.specs.declared.step.Move.the-variants.{Noted, Clash}
+use Rattle.engine.proofs.Running.{lent-ran}
+use Rattle.engine.proofs.Sweeping.{SoFar, IsNext, next-forth, next-back, sweep-start, sweep-step, sweep-clash, sweep-end}
 use Rattle.engine.proofs.sweep.Statement.{statement}
 use Rattle.engine.proofs.sweep.Tie as tie
 
 abbrev Inv-loop : tie.InvT-loop
-Inv-loop maker depot states₀ all moved₀ i₀ states moved i = (i ≤ all) × Cells states × SoFar maker depot states₀ states i moved
+Inv-loop maker depot back states₀ queue₀ start all tail₀ i₀ states queue tail i =
+    (i ≤ all) × Lent states queue tail × SoFar maker depot back states₀ states queue₀ queue start tail i
 
 abbrev μ-loop : tie.MeasureT-loop
-μ-loop maker depot states₀ all moved₀ i₀ states moved i = all - i
+μ-loop maker depot back states₀ queue₀ start all tail₀ i₀ states queue tail i = all - i
 
--- where the function began, from where the loop is entered; its tables and its states
+-- where the function began, from where the loop is entered; its tables, its states and its queue
 abbrev start : tie.At-loop Inv-loop μ-loop → tie.Start Inv-loop μ-loop
 start c = c .before .before .before .before
 
@@ -31,108 +33,98 @@ makers c = start c .args .maker .now
 abbrev depots : tie.At-loop Inv-loop μ-loop → List ℕ
 depots c = start c .args .depot .now
 
-abbrev first : tie.At-loop Inv-loop μ-loop → List ℕ
-first c = start c .args .states .now
-
 count-requires : tie.Need-count-requires Inv-loop μ-loop
 count-requires c κs = search needs
 
 loop-holds : tie.Need-loop-holds Inv-loop μ-loop
-loop-holds c = (search needs, c .before .before .before .pre .1, sweep-start _ _ _)
+loop-holds c =
+    let began = c .before .before .before in
+    (omega arith, began .pre .1, sweep-start _ _ (began .args .back) (began .pre .1 .cells .sheet))
+
+sub-number : tie.Need-sub-number Inv-loop μ-loop
+sub-number c = omega arith
+
+sub-number-2 : tie.Need-sub-number-2 Inv-loop μ-loop
+sub-number-2 c = omega arith
+
+-- the record's number is that of the i-th
+numbered : (c : tie.Joined1 Inv-loop μ-loop) → let at-loop = c .before .before in
+    let all = recordCount (makers at-loop) (depots at-loop) in
+    (c .if1 .number < all) × IsNext (start at-loop .args .back) all (at-loop .loop .i) (c .if1 .number)
+numbered c =
+    let at-loop = c .before .before in
+    let counted = at-loop .before .count .ensures in
+    let back = start at-loop .args .back in
+    ⊎-elim
+    (λ w. next-back counted (omega arith) back (w .0 .taken) (w .1))
+    (λ w. next-forth counted (omega arith) back (w .0 .left) (w .1))
+    (c .if1 .came)
 
 record-at-requires : tie.Need-record-at-requires Inv-loop μ-loop
-record-at-requires c κs = (start (c .before) .pre .0 .whole, omega (arith, c .before .before .count .ensures))
+record-at-requires c κs = (start (c .before .before) .pre .0 .whole, numbered c .0)
 
-step-requires : tie.Need-step-requires Inv-loop μ-loop
-step-requires c κs =
-    let at-loop = c .before .before .before in
+step-record-requires : tie.Need-step-record-requires Inv-loop μ-loop
+step-record-requires c κs =
+    let at-loop = c .before .before .before .before .before in
+    let joined = c .before .before .before in
     record {
-      good =
-          rw (c .before .record-at .ensures) (start at-loop .pre .0 .good (at-loop .loop .i) (omega (arith, at-loop .before .count .ensures)));
-      cells = at-loop .loop .inv .1;
+      good = rw (c .before .before .record-at .ensures) (start at-loop .pre .0 .good (joined .if1 .number) (numbered joined .0));
+      lent = at-loop .loop .inv .1;
     }
+
+enum-known-answer : tie.Need-enum-known-answer Inv-loop μ-loop
+enum-known-answer c = search needs
 
 enum-told : tie.Need-enum-told Inv-loop μ-loop
 enum-told c = search needs
 
-enum-told-2 : tie.Need-enum-told-2 Inv-loop μ-loop
-enum-told-2 c = search needs
+-- the loop's place and the record's number, from where the step has answered
+abbrev loopOf : tie.After-step-record Inv-loop μ-loop → tie.At-loop Inv-loop μ-loop
+loopOf c = c .before .before .before .before .before .before
 
-enum-told-3 : tie.Need-enum-told-3 Inv-loop μ-loop
-enum-told-3 c = search needs
+abbrev chosen : tie.After-step-record Inv-loop μ-loop → tie.Joined1 Inv-loop μ-loop
+chosen c = c .before .before .before .before
 
--- the loop's place, from where the step has answered
-abbrev loopOf : tie.After-step Inv-loop μ-loop → tie.At-loop Inv-loop μ-loop
-loopOf c = c .before .before .before .before
+abbrev StepAt : tie.After-step-record Inv-loop μ-loop → Move → Type 0
+StepAt c answer =
+    let at-loop = loopOf c in
+    let q = recordAt (makers at-loop) (depots at-loop) (chosen c .if1 .number) in
+    RecordStepped (isRule q) q (at-loop .loop .states) (c .step-record .last .1 .0) (at-loop .loop .queue) (c .step-record .last .1 .1 .0)
+    (at-loop .loop .tail) answer
 
 -- the step that was taken, on the record of this number
-step-taken : (c : tie.After-step Inv-loop μ-loop) (answer : Move) → c .step .result ≡ answer →
-    let at-loop = loopOf c in
-    StepAt (makers at-loop) (depots at-loop) (at-loop .loop .states) (c .step .last .1 .0) (at-loop .loop .i) answer
+step-taken : (c : tie.After-step-record Inv-loop μ-loop) (answer : Move) → c .step-record .result ≡ answer → StepAt c answer
 step-taken c answer e =
     let at-loop = loopOf c in
-    let new = c .step .last .1 .0 in
-    subst (λ (r : Move). StepAt (makers at-loop) (depots at-loop) (at-loop .loop .states) new (at-loop .loop .i) r) e
-    (subst (λ (q : Rec). RecordStepped (isRule q) q (at-loop .loop .states) new (c .step .result)) (c .before .before .record-at .ensures) (c .step .ensures))
-
-in-tables : (c : tie.After-step Inv-loop μ-loop) → loopOf c .loop .i < recordCount (makers (loopOf c)) (depots (loopOf c))
-in-tables c = omega (arith, loopOf c .before .count .ensures)
+    subst (StepAt c) e
+    (subst
+    (λ (q : Rec).
+    RecordStepped (isRule q) q (at-loop .loop .states) (c .step-record .last .1 .0) (at-loop .loop .queue) (c .step-record .last .1 .1 .0)
+    (at-loop .loop .tail) (c .step-record .result))
+    (c .before .before .before .record-at .ensures) (c .step-record .ensures))
 
 returns : tie.Need-returns Inv-loop μ-loop
 returns c =
     let step = c .before .before in
-    let at-loop = loopOf step in
-    sweep-clash (makers at-loop) (depots at-loop) (first at-loop) (at-loop .loop .states) (step .step .last .1 .0) (at-loop .loop .i) (in-tables step)
-    (at-loop .loop .moved) (at-loop .loop .inv .2) (step-taken step Clash (c .enum-told3 .given .1))
+    sweep-clash _ _ (loopOf step .loop .inv .2) (chosen step .if1 .number) (numbered (chosen step) .0) _ _ (step-taken step Clash (c .enum-told .given .1))
 
 add-i : tie.Need-add-i Inv-loop μ-loop
 add-i c = search needs
 
 loop-less : tie.Need-loop-less Inv-loop μ-loop
-loop-less c = search needs
+loop-less c = omega arith
 
 loop-again : tie.Need-loop-again Inv-loop μ-loop
 loop-again c =
-    let step = c .before in
-    let at-loop = loopOf step in
-    let q = recordAt (makers at-loop) (depots at-loop) (at-loop .loop .i) in
-    let old = at-loop .loop .states in
-    let new = step .step .last .1 .0 in
-    let moved = at-loop .loop .moved in
-    let so-far = at-loop .loop .inv .2 in (
-      omega arith,
-      ⊎-elim
-          (λ w. step-cells q old new (at-loop .loop .inv .1) (isRule q) Still (step-taken step Still (w .1 .given .1)))
-          (λ w. step-cells q old new (at-loop .loop .inv .1) (isRule q) Moved (step-taken step Moved (w .1 .given .1)))
-          (c .match .came),
-      ⊎-elim
-          (λ w.
-          rw (w .2)
-          (sweep-still (makers at-loop) (depots at-loop) (first at-loop) old new (at-loop .loop .i) moved so-far
-          (step-taken step Still (w .1 .given .1))))
-          (λ w.
-          rw (w .2)
-          (sweep-moved (makers at-loop) (depots at-loop) (first at-loop) old new (at-loop .loop .i) (in-tables step) moved so-far
-          (step-taken step Moved (w .1 .given .1))))
-          (c .match .came),
-    )
-
--- the loop has ended
-ended : (c : tie.After-loop Inv-loop μ-loop) (moved : Bool) → c .before .loop .moved ≡ moved →
-    SoFar (makers (c .before)) (depots (c .before)) (first (c .before)) (c .before .loop .states) (c .before .loop .i) moved
-ended c moved e =
-    let at-loop = c .before in
-    subst (λ (m : Bool). SoFar (makers at-loop) (depots at-loop) (first at-loop) (at-loop .loop .states) (at-loop .loop .i) m) e
-    (at-loop .loop .inv .2)
+    let step = c .before .before .before in
+    let tail = c .before .answer .given .0 .0 in
+    let so-far =
+    sweep-step _ _ (loopOf step .loop .inv .2) (chosen step .if1 .number) (numbered (chosen step) .0) (numbered (chosen step) .1) _ _ tail
+    (step-taken step (Noted tail) (c .before .answer .given .1)) in
+    (omega arith, lent-ran (start (loopOf step) .pre .1) (so-far .ran), so-far)
 
 returns-2 : tie.Need-returns-2 Inv-loop μ-loop
-returns-2 c = ended (c .before) _ (c .if1 .taken)
-
-returns-3 : tie.Need-returns-3 Inv-loop μ-loop
-returns-3 c =
-    let at-loop = c .before .before in
-    sweep-rest (makers at-loop) (depots at-loop) (first at-loop) (at-loop .loop .states) (at-loop .loop .i)
-    (omega (arith, at-loop .before .count .ensures)) (ended (c .before) _ (c .if1 .left))
+returns-2 c = sweep-end _ _ (c .before .loop .inv .2) (omega (arith, c .before .before .count .ensures))
 
 pub sweep-spec : {M : Type 1} → statement M
 sweep-spec =
@@ -142,14 +134,14 @@ sweep-spec =
     μ-loop
     count-requires
     loop-holds
+    sub-number
+    sub-number-2
     record-at-requires
-    step-requires
+    step-record-requires
+    enum-known-answer
     enum-told
-    enum-told-2
-    enum-told-3
     returns
     add-i
     loop-less
     loop-again
-    returns-2
-    returns-3)
+    returns-2)

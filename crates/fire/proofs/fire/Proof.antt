@@ -33,9 +33,7 @@ returns-4 c = fired-of (c .before .before .pre) (rw (c .before .match .keys4) (c
 
 returns-5 : tie.Need-returns-5
 returns-5 c =
-    let r = c .match .rest in
-    fired-of (c .before .pre)
-    (rw (← tree-closed (c .before .args .kind) (c .before .pre), tree-none _ (r .0 .0 .0 .1) (r .0 .0 .1) (r .0 .1) (r .1)))
+    fired-of (c .before .pre) (rw (← tree-closed (c .before .args .kind) (c .before .pre), tree-none _ (c .match .rest)))
 
 pub fire-spec : {M : Type 1} → statement M
 fire-spec =

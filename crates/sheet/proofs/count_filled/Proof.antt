@@ -1,15 +1,15 @@
 -- `sheet::count_filled` meets its contract.
 -- Assumes nothing.
 use mathlib.Core.Path.{_≡_, refl}
-use mathlib.Core.Bool.{Bool, not, _&&_}
+use mathlib.Core.Logic.{⊎-elim}
+use mathlib.Core.Bool.{Bool, true, false, cond, not, _&&_}
 use mathlib.Core.List.{List}
-use Prim.Native.Nat.{ℕ, _-_, _≤_}
+use Prim.Native.Nat.{ℕ, _+_, _*_, _-_, _≤_}
 use native.Mathlib.Omega.{arith}
 use borrow.Author.Needs.{needs}
 use borrow.Author.Tests.{eq-eqb, ne-eqb}
 use lib.Dec.{eqb}
 use lib.ListN.{length, getD}
-use mathlib.Core.Logic.{⊎-elim}
 use Rattle.lemmas.specs.Lists.{count, upto}
 use Rattle.spec.specs.Fill.{boxesFilled}
 use Rattle.lemmas.proofs.Indexed.{count-upto-yes, count-upto-no, count-upto-below}
@@ -32,18 +32,51 @@ loop-holds c = (search needs, refl)
 shared-slice-read-if1 : tie.Need-shared-slice-read-if1 Inv-loop μ-loop
 shared-slice-read-if1 c = search needs
 
--- where the loop is entered, from where the first test was passed
-abbrev loopOf : tie.Then1 Inv-loop μ-loop → tie.At-loop Inv-loop μ-loop
-loopOf c = c .before .before .before
-
 shared-slice-read-if2 : tie.Need-shared-slice-read-if2 Inv-loop μ-loop
-shared-slice-read-if2 c = omega (arith, loopOf (c .before) .before .pre)
+shared-slice-read-if2 c = omega (arith, c .before .before .before .before .before .pre)
+
+-- a test as a number, and two of them
+times : (opened settled : Bool) {a d : ℕ} → a ≡ cond opened 1 0 → d ≡ cond settled 1 0 → a * d ≡ cond (opened && settled) 1 0
+times true true e e′ = rw (e, e′)
+times true false e e′ = rw (e, e′)
+times false true e e′ = rw (e, e′)
+times false false e e′ = rw (e, e′)
+
+-- one box more is counted
+count-next : (p : ℕ → Bool) (b : ℕ) (is : Bool) → p b ≡ is → count p (upto (b + 1)) ≡ count p (upto b) + cond is 1 0
+count-next p b true e = count-upto-yes p b e
+count-next p b false e = omega (arith, count-upto-no p b e)
+
+-- where the loop is entered, from where both numbers are known
+abbrev loopOf : tie.Joined2 Inv-loop μ-loop → tie.At-loop Inv-loop μ-loop
+loopOf c = c .before .before .before .before .before
+
+-- what is added is 1 where the box is filled
+added : (c : tie.Joined2 Inv-loop μ-loop) → let args = loopOf c .before .args in
+    c .before .before .if1 .was-open * c .if2 .is-settled ≡ cond (isFilled (args .sheet .now) (args .filled .now) (loopOf c .loop .b)) 1 0
+added c =
+    let args = loopOf c .before .args in
+    let b = loopOf c .loop .b in
+    times (eqb (getD (args .sheet .now) b 0) 2) (not (eqb (getD (args .filled .now) b 0) 2))
+    (⊎-elim (λ w. rw (eq-eqb _ _ (w .0 .taken)) (w .1)) (λ w. rw (ne-eqb _ _ (w .0 .left)) (w .1)) (c .before .before .if1 .came))
+    (⊎-elim (λ w. rw (eq-eqb _ _ (w .0 .taken)) (w .1)) (λ w. rw (ne-eqb _ _ (w .0 .left)) (w .1)) (c .if2 .came))
+
+one-at-most : (is : Bool) → cond is 1 0 ≤ 1
+one-at-most true = omega arith
+one-at-most false = omega arith
+
+mul-n : tie.Need-mul-n Inv-loop μ-loop
+mul-n c =
+    let both = c .before .before in
+    let args = loopOf both .before .args in
+    record { fits = omega (arith, added both, one-at-most (isFilled (args .sheet .now) (args .filled .now) (loopOf both .loop .b))) }
 
 add-n : tie.Need-add-n Inv-loop μ-loop
 add-n c =
-    let at-loop = loopOf (c .before .before) in
-    let args = at-loop .before .args in
-    record { fits = omega (arith, count-upto-below (isFilled (args .sheet .now) (args .filled .now)) (at-loop .loop .b)) }
+    let both = c .before .before in
+    let args = loopOf both .before .args in
+    let filled = isFilled (args .sheet .now) (args .filled .now) in
+    record { fits = omega (arith, added both, one-at-most (filled (loopOf both .loop .b)), count-upto-below filled (loopOf both .loop .b)) }
 
 add-b : tie.Need-add-b Inv-loop μ-loop
 add-b c = search needs
@@ -52,17 +85,12 @@ loop-less : tie.Need-loop-less Inv-loop μ-loop
 loop-less c = search needs
 
 loop-again : tie.Need-loop-again Inv-loop μ-loop
-loop-again c = let a = c .before .before .before .before .args in
-    let filled = isFilled (a .sheet .now) (a .filled .now) in
-    let l = c .before .before .before .loop in (
-      search needs,
-      ⊎-elim
-          (λ w. omega (arith, w .3, l .inv .1, count-upto-yes filled (l .b) (rw (eq-eqb _ _ (w .0 .taken), ne-eqb _ _ (w .2 .taken)))))
-          (⊎-elim
-          (λ w. omega (arith, w .3, l .inv .1, count-upto-no filled (l .b) (rw (eq-eqb _ _ (w .0 .taken), eq-eqb _ _ (w .2 .left)))))
-          (λ w. omega (arith, w .1, l .inv .1, count-upto-no filled (l .b) (rw (ne-eqb _ _ (w .0 .left))))))
-          (c .if1 .came),
-    )
+loop-again c =
+    let both = c .before .before in
+    let args = loopOf both .before .args in
+    let filled = isFilled (args .sheet .now) (args .filled .now) in
+    let at-loop = loopOf both .loop in
+    (search needs, omega (arith, added both, at-loop .inv .1, count-next filled (at-loop .b) (filled (at-loop .b)) refl))
 
 returns : tie.Need-returns Inv-loop μ-loop
 unfolding boxesFilled
@@ -77,6 +105,7 @@ count-filled-spec =
     loop-holds
     shared-slice-read-if1
     shared-slice-read-if2
+    mul-n
     add-n
     add-b
     loop-less

@@ -4,23 +4,23 @@ use mathlib.Core.Path.{_≡_, _∙_}
 use Prim.Native.Nat.{ℕ, _-_, _≤_, _<_}
 use native.Mathlib.Omega.{arith}
 use borrow.Author.Needs.{needs}
-use borrow.Author.Count.{below-none, below-more}
+use borrow.Author.Count.{below-more}
 use lib.ListN.{getD}
 use Rattle.lemmas.proofs.Reading.{getD-default}
 use Rattle.search.proofs.look.lowest_open.Statement.{statement}
 use Rattle.search.proofs.look.lowest_open.Tie as tie
 
 abbrev Inv-loop : tie.InvT-loop
-Inv-loop states n b₀ b = (b ≤ n) × ((i : ℕ) → i < b → getD states i 2 ≡ 2 → ⊥)
+Inv-loop states from n b₀ b = (b ≤ n) × ((i : ℕ) → i < b → getD states i 2 ≡ 2 → ⊥)
 
 abbrev μ-loop : tie.MeasureT-loop
-μ-loop states n b₀ b = n - b
+μ-loop states from n b₀ b = n - b
 
 loop-holds : tie.Need-loop-holds Inv-loop μ-loop
-loop-holds c = (search needs, below-none _)
+loop-holds c = (search needs, λ i h e. omega (arith, c .pre .1 .1 i h))
 
 shared-slice-read-if1 : tie.Need-shared-slice-read-if1 Inv-loop μ-loop
-shared-slice-read-if1 c = omega (arith, c .before .before .before .pre)
+shared-slice-read-if1 c = omega (arith, c .before .before .before .pre .0)
 
 returns : tie.Need-returns Inv-loop μ-loop
 returns c =
@@ -29,7 +29,7 @@ returns c =
     record {
       within = l .inv .0;
       settled = l .inv .1;
-      opened = λ h. getD-default (start .args .states .now) (l .b) 2 0 (omega (arith, start .pre)) ∙ c .if1 .taken;
+      opened = λ h. getD-default (start .args .states .now) (l .b) 2 0 (omega (arith, start .pre .0)) ∙ c .if1 .taken;
     }
 
 add-b : tie.Need-add-b Inv-loop μ-loop
@@ -43,7 +43,7 @@ loop-again c =
     let start = c .before .before .before .before in
     let l = c .before .before .before .loop in (
       search needs,
-      below-more _ _ (l .inv .1) (λ e. c .if1 .left (getD-default (start .args .states .now) (l .b) 0 2 (omega (arith, start .pre)) ∙ e)),
+      below-more _ _ (l .inv .1) (λ e. c .if1 .left (getD-default (start .args .states .now) (l .b) 0 2 (omega (arith, start .pre .0)) ∙ e)),
     )
 
 returns-2 : tie.Need-returns-2 Inv-loop μ-loop

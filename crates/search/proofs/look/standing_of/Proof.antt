@@ -6,20 +6,20 @@ use mathlib.Core.List.{List}
 use Prim.Native.Nat.{ℕ, _-_, _≤_, _<_}
 use native.Mathlib.Omega.{arith}
 use borrow.Author.Needs.{needs}
-use borrow.Author.Count.{below-none, below-more}
+use borrow.Author.Count.{below-more}
 use lib.ListN.{getD}
 use Rattle.lemmas.proofs.Reading.{getD-default}
 use Rattle.search.proofs.look.standing_of.Statement.{statement}
 use Rattle.search.proofs.look.standing_of.Tie as tie
 
 abbrev Inv-loop : tie.InvT-loop
-Inv-loop states given b c₀ c = (c ≤ b) × ((i : ℕ) → i < c → getD states i 2 ≡ getD given i 2)
+Inv-loop states given from b c₀ c = (c ≤ b) × ((i : ℕ) → i < c → getD states i 2 ≡ getD given i 2)
 
 abbrev μ-loop : tie.MeasureT-loop
-μ-loop states given b c₀ c = b - c
+μ-loop states given from b c₀ c = b - c
 
 loop-holds : tie.Need-loop-holds Inv-loop μ-loop
-loop-holds c = (search needs, below-none _)
+loop-holds c = (search needs, c .pre .1 .1 .1)
 
 -- what the code reads at box c, inside both lists, is what stands there
 abbrev states : tie.In-loop Inv-loop μ-loop → List ℕ
@@ -35,7 +35,7 @@ states-read : (c : tie.In-loop Inv-loop μ-loop) → getD (states c) (box c) 0 �
 states-read c = getD-default (states c) (box c) 0 2 (omega (arith, c .before .before .pre .0))
 
 given-read : (c : tie.In-loop Inv-loop μ-loop) → getD (given c) (box c) 0 ≡ getD (given c) (box c) 2
-given-read c = getD-default (given c) (box c) 0 2 (omega (arith, c .before .before .pre .1))
+given-read c = getD-default (given c) (box c) 0 2 (omega (arith, c .before .before .pre .1 .0))
 
 -- where the loop's body begins, from its first test and from its second
 abbrev from1 : tie.After-shared-slice-known2 Inv-loop μ-loop → tie.In-loop Inv-loop μ-loop
@@ -48,7 +48,7 @@ shared-slice-read-if1 : tie.Need-shared-slice-read-if1 Inv-loop μ-loop
 shared-slice-read-if1 c = omega (arith, c .before .before .before .pre .0)
 
 shared-slice-read-if1-2 : tie.Need-shared-slice-read-if1-2 Inv-loop μ-loop
-shared-slice-read-if1-2 c = omega (arith, from1 c .before .before .pre .1)
+shared-slice-read-if1-2 c = omega (arith, from1 c .before .before .pre .1 .0)
 
 returns : tie.Need-returns Inv-loop μ-loop
 returns c =
@@ -56,7 +56,7 @@ returns c =
     (refl, (box here, omega arith, record { same = here .before .loop .inv .1; less = omega (arith, c .if1 .taken, states-read here, given-read here) }))
 
 shared-slice-read-if2 : tie.Need-shared-slice-read-if2 Inv-loop μ-loop
-shared-slice-read-if2 c = let here = from1 (c .before .before) in omega (arith, here .before .before .pre .1)
+shared-slice-read-if2 c = let here = from1 (c .before .before) in omega (arith, here .before .before .pre .1 .0)
 
 shared-slice-read-if2-2 : tie.Need-shared-slice-read-if2-2 Inv-loop μ-loop
 shared-slice-read-if2-2 c = omega (arith, from2 c .before .before .pre .0)

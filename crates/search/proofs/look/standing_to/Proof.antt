@@ -8,7 +8,9 @@ use Rattle.search.proofs.look.standing_to.Statement.{statement}
 use Rattle.search.proofs.look.standing_to.Tie as tie
 
 standing-of-requires : tie.Need-standing-of-requires
-standing-of-requires c κs = (c .before .before .before .pre .0, c .before .before .before .pre .1 (c .if1 .taken))
+standing-of-requires c κs =
+    let began = c .before .before .before in
+    (began .pre .0, (began .pre .1 .0 (c .if1 .taken), (began .pre .1 .1 .0, began .pre .1 .1 .1 (c .if1 .taken))))
 
 returns : tie.Need-returns
 returns c =
