@@ -297,11 +297,12 @@ pub kit-limits :
 unfolding kits keeps fitsAll rulesIn isRule recordCount recordAt recFrom kindOf boxAt isIn meaning breaks
 kit-limits = refl
 
--- the list handed out needs both tables
+-- the list handed out needs both tables; and where only both together leave none, nothing is written
 pub list-limits :
     Agree
     ((firstWrites and-record equ-record (1 ∷ 2 ∷ 2 ∷ []) (7 ∷ 8 ∷ 9 ∷ []), 1 ∷ 1 ∷ 1 ∷ [])
     ∷ (nextWrites and-record equ-record (2 ∷ 2 ∷ 2 ∷ []) (0 ∷ 1 ∷ 0 ∷ []) (7 ∷ 8 ∷ 9 ∷ []), 1 ∷ 1 ∷ 1 ∷ [])
+    ∷ (nextWrites same-record not-record (2 ∷ 2 ∷ []) (0 ∷ 0 ∷ []) (7 ∷ 8 ∷ []), 7 ∷ 8 ∷ [])
     ∷ [])
 unfolding boxesCheck makerCheck depotCheck countCheck recordCheck sheetCheck givenCheck outCheck listCheck noneCheck
     recordCount lowest bad kindOf placesOf boxAt boxesOf noKind lacksZ twoEqual recFrom recordAt rulesIn isRule
