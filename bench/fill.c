@@ -32,7 +32,7 @@ static void put(uint8_t *table, size_t number, int kind, int x, int y, int z) {
     memcpy(table + 8 * number, bytes, 8);
 }
 
-static void fill(fill_function *f, const struct call *c, uint8_t *out, uint64_t answer[3]) {
+static void fill(fill_function *f, const struct call *c, uint8_t *out, uint64_t *answer) {
     f(c->maker, 8 * c->makers, c->depot, 8 * c->depots, c->sheet, c->n, out, c->n, answer);
 }
 
@@ -145,11 +145,11 @@ static void small_call(struct call *c) {
 /* All three answer alike, and leave the same in the buffer. */
 static void compare(const struct call *c, const char *name) {
     uint8_t out[COUNT(fills)][256];
-    uint64_t answer[COUNT(fills)][3];
+    uint64_t answer[COUNT(fills)][ANGATUPYI_NUMBERS];
     for (size_t f = 0; f < COUNT(fills); f++) {
         memset(out[f], 9, 256);
         fill(fills[f], c, out[f], answer[f]);
-        if (memcmp(answer[f], answer[0], sizeof answer[0]) || memcmp(out[f], out[0], 256)) {
+        if (memcmp(answer[f], answer[0], PLAIN_NUMBERS * sizeof answer[0][0]) || memcmp(out[f], out[0], 256)) {
             fprintf(stderr, "%s: program %zu answers otherwise\n", name, f);
             exit(1);
         }
@@ -158,7 +158,7 @@ static void compare(const struct call *c, const char *name) {
 
 static void compare_small(void) {
     static struct call c;
-    uint64_t said[9] = {0}, answer[3];
+    uint64_t said[9] = {0}, answer[ANGATUPYI_NUMBERS];
     uint8_t out[256];
     int calls = 200000;
     for (int i = 0; i < calls; i++) {
@@ -185,7 +185,7 @@ static double now(void) {
 
 static double seconds(fill_function *f, const struct call *c, long calls) {
     uint8_t out[256];
-    uint64_t answer[3];
+    uint64_t answer[ANGATUPYI_NUMBERS];
     double begun = now();
     for (long i = 0; i < calls; i++) {
         fill(f, c, out, answer);
@@ -212,7 +212,7 @@ static void measure(const struct call *c, double best[COUNT(fills)]) {
 static void line(const char *name, void make(struct call *)) {
     static struct call c;
     uint8_t out[256];
-    uint64_t answer[3];
+    uint64_t answer[ANGATUPYI_NUMBERS];
     double best[COUNT(fills)];
     make(&c);
     compare(&c, name);

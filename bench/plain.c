@@ -19,7 +19,7 @@ struct job {
     int clash;
 };
 
-static void refuse(uint64_t answer[3], uint64_t number, uint64_t place) {
+static void refuse(uint64_t *answer, uint64_t number, uint64_t place) {
     answer[0] = 1;
     answer[1] = number;
     answer[2] = place;
@@ -40,7 +40,7 @@ static int is_bad(const struct record *r, size_t n) {
     return r->z >= n || r->x == r->z || r->y == r->z;
 }
 
-static int refused(uint64_t answer[3], uint64_t number, uint64_t place) {
+static int refused(uint64_t *answer, uint64_t number, uint64_t place) {
     refuse(answer, number, place);
     return 0;
 }
@@ -53,7 +53,7 @@ static void read_records(struct job *j, const uint8_t *table, size_t length) {
 
 /* The checks 1 to 5, with the records read. */
 static int accepted(struct job *j, const uint8_t *maker, size_t maker_length, const uint8_t *depot, size_t depot_length,
-                    const uint8_t *sheet, size_t n, size_t out_length, uint64_t answer[3]) {
+                    const uint8_t *sheet, size_t n, size_t out_length, uint64_t *answer) {
     if (n > 256)
         return refused(answer, 1, 0);
     if (maker_length % 8)
@@ -141,7 +141,7 @@ static inline int fire(struct job *j, const struct record *r) {
     }
 }
 
-static void hand_out(const struct job *j, const uint8_t *sheet, uint8_t *out, uint64_t answer[3]) {
+static void hand_out(const struct job *j, const uint8_t *sheet, uint8_t *out, uint64_t *answer) {
     if (j->clash) {
         refuse(answer, 7, 0);
         return;
@@ -157,7 +157,7 @@ static void hand_out(const struct job *j, const uint8_t *sheet, uint8_t *out, ui
 }
 
 void fill_by_sweeps(const uint8_t *maker, size_t maker_length, const uint8_t *depot, size_t depot_length,
-                    const uint8_t *sheet, size_t n, uint8_t *out, size_t out_length, uint64_t answer[3]) {
+                    const uint8_t *sheet, size_t n, uint8_t *out, size_t out_length, uint64_t *answer) {
     struct job j;
     if (!accepted(&j, maker, maker_length, depot, depot_length, sheet, n, out_length, answer)) {
         return;
@@ -201,7 +201,7 @@ static void build(struct index *x, const struct job *j) {
 }
 
 void fill_by_queue(const uint8_t *maker, size_t maker_length, const uint8_t *depot, size_t depot_length,
-                   const uint8_t *sheet, size_t n, uint8_t *out, size_t out_length, uint64_t answer[3]) {
+                   const uint8_t *sheet, size_t n, uint8_t *out, size_t out_length, uint64_t *answer) {
     struct job j;
     if (!accepted(&j, maker, maker_length, depot, depot_length, sheet, n, out_length, answer)) {
         return;

@@ -59,6 +59,7 @@ extern "C" {
 
 enum { ANGATUPYI_DONE = 0, ANGATUPYI_REFUSED = 1, ANGATUPYI_BROKEN = 2 };
 enum { ANGATUPYI_OUT = 0, ANGATUPYI_IN = 1, ANGATUPYI_OPEN = 2 };
+enum { ANGATUPYI_NUMBERS = 3 }; /* that `answer` has room for */
 
 /* The library's own functions. They take no null pointer: call the ones further down. */
 void angatupyi_test(const uint8_t *maker, size_t maker_length, const uint8_t *depot, size_t depot_length,
@@ -101,7 +102,7 @@ static inline angatupyi_answer angatupyi_as_answer(const uint64_t *said) {
 }
 
 static inline angatupyi_answer desk_test(angatupyi_lent maker, angatupyi_lent depot, angatupyi_lent list) {
-  uint64_t said[3] = {0, 0, 0};
+  uint64_t said[ANGATUPYI_NUMBERS] = {0};
   angatupyi_test(angatupyi_there(maker.bytes), maker.length, angatupyi_there(depot.bytes), depot.length,
                  angatupyi_there(list.bytes), list.length, said);
   return angatupyi_as_answer(said);
@@ -109,7 +110,7 @@ static inline angatupyi_answer desk_test(angatupyi_lent maker, angatupyi_lent de
 
 /* The part itself: eight bytes inside one of the two tables, or no bytes at the start of the maker's. */
 static inline angatupyi_lent desk_show(angatupyi_lent maker, angatupyi_lent depot, angatupyi_lent list) {
-  uint64_t said[3] = {0, 0, 0};
+  uint64_t said[ANGATUPYI_NUMBERS] = {0};
   angatupyi_show(angatupyi_there(maker.bytes), maker.length, angatupyi_there(depot.bytes), depot.length,
                  angatupyi_there(list.bytes), list.length, said);
   angatupyi_lent part = {said[0] ? depot.bytes : maker.bytes, (size_t)said[2]};
@@ -119,7 +120,7 @@ static inline angatupyi_lent desk_show(angatupyi_lent maker, angatupyi_lent depo
 
 static inline angatupyi_answer desk_fill(angatupyi_lent maker, angatupyi_lent depot, angatupyi_lent sheet, uint8_t *out,
                                          size_t out_length) {
-  uint64_t said[3] = {0, 0, 0};
+  uint64_t said[ANGATUPYI_NUMBERS] = {0};
   uint8_t nothing[1] = {0};
   angatupyi_fill(angatupyi_there(maker.bytes), maker.length, angatupyi_there(depot.bytes), depot.length,
                  angatupyi_there(sheet.bytes), sheet.length, angatupyi_room(out, nothing), out_length, said);
@@ -128,7 +129,7 @@ static inline angatupyi_answer desk_fill(angatupyi_lent maker, angatupyi_lent de
 
 static inline angatupyi_answer desk_first(angatupyi_lent maker, angatupyi_lent depot, angatupyi_lent sheet, uint8_t *out,
                                           size_t out_length) {
-  uint64_t said[3] = {0, 0, 0};
+  uint64_t said[ANGATUPYI_NUMBERS] = {0};
   uint8_t nothing[1] = {0};
   angatupyi_first(angatupyi_there(maker.bytes), maker.length, angatupyi_there(depot.bytes), depot.length,
                   angatupyi_there(sheet.bytes), sheet.length, angatupyi_room(out, nothing), out_length, said);
@@ -137,7 +138,7 @@ static inline angatupyi_answer desk_first(angatupyi_lent maker, angatupyi_lent d
 
 static inline angatupyi_answer desk_next(angatupyi_lent maker, angatupyi_lent depot, angatupyi_lent sheet,
                                          angatupyi_lent given, uint8_t *out, size_t out_length) {
-  uint64_t said[3] = {0, 0, 0};
+  uint64_t said[ANGATUPYI_NUMBERS] = {0};
   uint8_t nothing[1] = {0};
   angatupyi_next(angatupyi_there(maker.bytes), maker.length, angatupyi_there(depot.bytes), depot.length,
                  angatupyi_there(sheet.bytes), sheet.length, angatupyi_there(given.bytes), given.length,

@@ -11,6 +11,10 @@ NONE = 65535
 class Refused(Exception):
     """A refusal: its number and its place."""
 
+    def __str__(self):
+        """As the probe writes it."""
+        return " ".join(["refused", *map(str, self.args)])
+
 
 def record(kind, x, y, z=NONE, one=0):
     return bytes([kind, one]) + b"".join(box.to_bytes(2, "little") for box in (x, y, z))

@@ -23,7 +23,7 @@ def fill_line(name, maker, depot, sheet, size=None):
         count, left = fill(maker, depot, sheet, len(out))
         answer = f"filled {count}"
     except Refused as why:
-        answer, left = "refused {} {}".format(*why.args), out  # a refusal writes nothing
+        answer, left = str(why), out  # a refusal writes nothing
     cases.append((name, line("fill", maker, depot, sheet, out), line(answer, left)))
 
 
@@ -38,7 +38,7 @@ def test_line(name, maker, depot, listed):
         if numbers:
             part = (maker + depot)[8 * numbers[0]:8 * numbers[0] + 8]
     except Refused as why:
-        answer = "refused {} {}".format(*why.args)
+        answer = str(why)
     cases.append((name, line("test", maker, depot, listed), answer))
     cases.append((name, line("show", maker, depot, listed), line("part", part)))
 

@@ -21,6 +21,10 @@ pub struct Refusal {
 }
 
 impl Refusal {
+    pub fn at(number: usize, place: usize) -> Refusal {
+        Refusal { number, place }
+    }
+
     /// As the probe and the listing program both write it.
     pub fn text(&self) -> String {
         format!("refused {} {}", self.number, self.place)
@@ -32,7 +36,7 @@ pub fn said<const LENT: usize>(text: impl Into<String>, lent: [Vec<u8>; LENT]) -
 }
 
 pub fn refused(number: usize, place: usize) -> Answer {
-    Answer::Refused(Refusal { number, place })
+    Answer::Refused(Refusal::at(number, place))
 }
 
 impl Answer {

@@ -1,6 +1,6 @@
 //! What the tables of bugs share: the answers that a wrong library gives.
 
-use crate::answer::{answer, refused, Answer, Refusal};
+use crate::answer::{answer, Answer, Refusal};
 use crate::call::Call;
 use crate::field::Kind;
 use crate::form::accept;
@@ -53,12 +53,12 @@ pub fn y_equal_to_z(call: &Call) -> Option<String> {
     match answer(call)? {
         Answer::Refused(Refusal { number: 3, place, .. }) => {
             let records = call.records();
-            let wrong = |r: &usize| records[*r].is_bad(n) && !only_this(&records[*r]);
             if !only_this(&records[place]) {
                 return None;
             }
-            let next = (place..records.len()).find(wrong);
-            Some(next.map_or("accepted".to_string(), |r| refused(3, r).line(call)))
+            let others = (place..records.len()).filter(|&r| !only_this(&records[r]));
+            let next = others.map(|r| records[r].check(r, n)).find_map(Result::err);
+            Some(next.map_or("accepted".to_string(), |refusal| Answer::Refused(refusal).line(call)))
         }
         _ => None,
     }

@@ -40,7 +40,7 @@ pub fn accept(call: &Call) -> Result<Vec<Record>, Refusal> {
 }
 
 pub fn refuse<T>(number: usize, place: usize) -> Result<T, Refusal> {
-    Err(Refusal { number, place })
+    Err(Refusal::at(number, place))
 }
 
 impl Form {
@@ -81,10 +81,7 @@ fn check_tables(call: &Call, n: usize) -> Result<(), Refusal> {
     if records.len() > MOST_RECORDS {
         return refuse(2, 2);
     }
-    match records.iter().position(|record| record.is_bad(n)) {
-        Some(place) => refuse(3, place),
-        None => Ok(()),
-    }
+    records.iter().enumerate().try_for_each(|(number, record)| record.check(number, n))
 }
 
 fn check_bytes(number: usize, bytes: &[u8], highest: u8) -> Result<(), Refusal> {

@@ -1,5 +1,7 @@
 //! One rule record: its eight bytes, what makes it bad, and which full lists break it.
 
+use crate::answer::Refusal;
+
 /// What stands in place of the third box where a record has none.
 pub const NO_BOX: usize = 65535;
 
@@ -66,6 +68,15 @@ impl Record {
         let has_a_box_too_many = named.len() == 2 && self.places[2] != NO_BOX;
         let twice = (0..named.len()).any(|i| named[..i].contains(&named[i]));
         no_kind || self.byte_1 != 0 || out_of_range || has_a_box_too_many || twice
+    }
+
+    /// 3: the record of this number is bad.
+    pub fn check(&self, number: usize, n: usize) -> Result<(), Refusal> {
+        if self.is_bad(n) {
+            Err(Refusal::at(3, number))
+        } else {
+            Ok(())
+        }
     }
 
     /// Asked only of records that are not bad.

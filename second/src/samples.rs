@@ -1,12 +1,13 @@
-//! The specification's samples that are too long to be stored, with the answers as it states them: the limits. The others
-//! are in second/regress/samples.probe.
+//! The specification's samples that are too long to be stored, with the answers as it states them: the limits, a refusal by
+//! its number and its place. The others are in second/regress/samples.probe.
 
-use crate::call::{hex, Call};
+use crate::answer::{answer, said, Answer};
+use crate::call::Call;
 use crate::closure::one_rule_table;
 use crate::field::{DEPOT, MAKER, OUT, SHEET};
 use crate::operations::FILL;
 use crate::record::encode;
-use crate::stream::{Due, Item};
+use crate::stream::Item;
 
 /// P11: entries of the one-rule table.
 const P11: [(usize, u8); 6] = [(150, 21), (168, 40), (201, 5), (6, 62), (137, 63), (106, 42)];
@@ -33,9 +34,11 @@ fn fill(boxes: usize, makers: usize, depots: usize, plus: usize) -> Call {
 }
 
 pub fn limits() -> Vec<Item> {
-    let accepted = |call: Call| (format!("filled 0 {}", hex(&call[SHEET])), call);
-    let refused =
-        |number: usize, place: usize, call: Call| (format!("refused {number} {place} {}", hex(&call[OUT])), call);
+    let accepted = |call: Call| (answer(&call) == Some(said("filled 0", [call[SHEET].clone()])), call);
+    let refused = |number: usize, place: usize, call: Call| {
+        let stated = matches!(answer(&call), Some(Answer::Refused(why)) if (why.number, why.place) == (number, place));
+        (stated, call)
+    };
     let samples = [
         // n = 256 accepted, 257 refusal 1
         accepted(fill(255, 1, 0, 0)),
@@ -53,10 +56,9 @@ pub fn limits() -> Vec<Item> {
         refused(3, 0, fill(2, 1, 0, 1)),
         refused(3, 0, fill(256, 0, 1, 1)),
     ];
-    let item = |(due, call): (String, Call)| {
-        let item = Item::of_call(&call).expect("Fill takes no search");
-        assert_eq!(item.due, Due::Answer(due), "a sample of the specification");
-        item
+    let item = |(as_stated, call): (bool, Call)| {
+        assert!(as_stated, "a sample of the specification");
+        Item::of_call(&call).expect("Fill takes no search")
     };
     samples.into_iter().map(item).collect()
 }

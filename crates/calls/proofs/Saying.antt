@@ -1,4 +1,4 @@
--- What an operation says, told by its three numbers.
+-- What an operation says, told by its numbers.
 -- Assumes nothing.
 use mathlib.Core.Path.{_≡_, refl, ap}
 use mathlib.Core.List.{List, [], _∷_}
@@ -11,7 +11,7 @@ use Rattle.spec.specs.Fits.{Verdict, fits, broken}
 use Rattle.text.specs.Spelling.{ascii, field}
 use Rattle.refusals.specs.declared.Numbers.{Numbers}
 use Rattle.refusals.specs.Telling.{doneWith, numbersOf, inOrder}
-use Rattle.refusals.proofs.Told.{OwnCodes, told-refused, told-answered}
+use Rattle.refusals.proofs.Told.{OwnCodes, told-refused, told-answered, count-told}
 use Rattle.fits.specs.Answer.{verdictNumbers}
 use Rattle.fits.proofs.Unique.{verdict-codes}
 use Rattle.fill.proofs.Unique.{count-codes}
@@ -30,13 +30,9 @@ told-words own codes words n done right s e = at (ℕ-discrete (n .code) 1)
     at (no c) = let told = told-answered own codes n s e c in rw (ne-eqb (n .code) 1 c, told .1) (right (told .0) (told .2))
 
 module _ (n : Numbers) where
-  -- the count of an operation that counts
-  pub count-told : (k : ℕ) → inOrder n ≡ doneWith k → n .first ≡ k
-  count-told k e = cc
-
   pub filled-words : (s : Said ℕ) → inOrder n ≡ numbersOf doneWith s → numbersWords n (field "filled " (n .first)) ≡ wordsOf (field "filled ") s
   filled-words =
-      told-words doneWith count-codes (field "filled ") n (field "filled " (n .first)) (λ k e. ap (field "filled ") (count-told k e))
+      told-words doneWith count-codes (field "filled ") n (field "filled " (n .first)) (λ k e. ap (field "filled ") (count-told n k e))
 
   pub listed-words : (s : Said (Unit {0})) → inOrder n ≡ numbersOf handedNumbers s → numbersWords n (ascii "list") ≡ wordsOf handedWords s
   listed-words = told-words handedNumbers handed-codes handedWords n (ascii "list") (λ a e. refl)

@@ -14,7 +14,7 @@ abbrev pub wordsOf : {A : Type 0} → (own : A → List ℕ) → Said A → List
 wordsOf own (refused why) = refusedWords why
 wordsOf own (answered answer) = own answer
 
--- the same by its three numbers: the first is 1 for a refusal alone; for anything else the words are given
+-- the same by its numbers: the first is 1 for a refusal alone; for anything else the words are given
 abbrev pub numbersWords : Numbers → (done : List ℕ) → List ℕ
 numbersWords n done = cond (eqb (n .code) 1) (refusedWords (refusalIn n)) done
 

@@ -1,6 +1,6 @@
 -- Checks in their order: which refusal they give, and what comes after them.
 -- Assumes nothing.
-use mathlib.Core.Path.{_≡_, refl, sym, _∙_}
+use mathlib.Core.Path.{_≡_, refl, sym, ap, _∙_}
 use mathlib.Core.Logic.{_⊎_, inl, inr}
 use mathlib.Core.Bool.{Bool, true, false, cond, true≢false, _&&_}
 use mathlib.Core.List.{List, [], _∷_, _++_, List·Memᴰ·head, List·Memᴰ·tail}
@@ -8,7 +8,7 @@ use Prim.Native.Nat.{ℕ, _<_}
 use native.Mathlib.Omega.{arith}
 use lib.Dec.{T, ltb, ltb→lt}
 use Rattle.lemmas.proofs.Tests.{both-left, both-right}
-use Rattle.spec.specs.Refusals.{Refusal, reason, Said, refused, passed, Check, judge}
+use Rattle.spec.specs.Refusals.{Refusal, numberOf, Said, refused, passed, Check, judge}
 use Rattle.claims.specs.Demands.{FirstApplies, here, past, InForm, RefusesBy}
 
 -- a call in form passes its checks
@@ -47,16 +47,12 @@ judged-first (c ∷ cs) after {why} e = go (c .when) refl e (judged-first cs aft
 
 -- a refusal of form: its number is one of 1 to 6
 abbrev pub OfForm : Refusal → Type 0
-OfForm why = (number place : ℕ) × (why ≡ reason number place) × (0 < number) × (number < 7)
+OfForm why = (0 < numberOf why) × (numberOf why < 7)
 
-pub of-form : (number place : ℕ) → T (ltb 0 number && ltb number 7) → OfForm (reason number place)
-of-form number place t = (
-  number,
-  place,
-  refl,
-  ltb→lt 0 number (both-left (ltb 0 number) (ltb number 7) t),
-  ltb→lt number 7 (both-right (ltb 0 number) (ltb number 7) t),
-)
+pub of-form : (c : Check) → T (ltb 0 (numberOf (c .why)) && ltb (numberOf (c .why)) 7) → OfForm (c .why)
+of-form c t =
+    let number = numberOf (c .why) in
+    (ltb→lt 0 number (both-left (ltb 0 number) (ltb number 7) t), ltb→lt number 7 (both-right (ltb 0 number) (ltb number 7) t))
 
 -- each of the checks makes one
 abbrev pub EachOfForm : List Check → Type 0
@@ -73,15 +69,15 @@ first-of-form each (past e f) = first-of-form (each .1) f
 
 -- what comes after them is no refusal of form
 abbrev pub AfterForm : {A : Type 0} → Said A → Type 0
-AfterForm after = (number place : ℕ) → number < 7 → after ≡ refused (reason number place) → ⊥
+AfterForm after = (why : Refusal) → numberOf why < 7 → after ≡ refused why → ⊥
 
 module _ {A : Type 0} (cs : List Check) (after : Said A) (each : EachOfForm cs) (own : AfterForm after) where
-  only-first : (number place : ℕ) → number < 7 → judge cs after ≡ refused (reason number place) → FirstWith cs (reason number place)
-  only-first number place small e = go (judged-first cs after e)
+  only-first : (why : Refusal) → numberOf why < 7 → judge cs after ≡ refused why → FirstWith cs why
+  only-first why small e = go (judged-first cs after e)
     where
-      go : FirstWith cs (reason number place) ⊎ (after ≡ refused (reason number place)) → FirstWith cs (reason number place)
+      go : FirstWith cs why ⊎ (after ≡ refused why) → FirstWith cs why
       go (inl found) = found
-      go (inr e) = absurd (own number place small e)
+      go (inr e) = absurd (own why small e)
 
   pub refuses-by : RefusesBy cs (judge cs after)
   refuses-by =
@@ -89,17 +85,16 @@ module _ {A : Type 0} (cs : List Check) (after : Said A) (each : EachOfForm cs) 
         given = λ c f. first-judged after f;
         numbered = λ c f. first-of-form each f;
         only = only-first;
-        none = λ form number place small e. form-none form (only-first number place small e .1);
+        none = λ form why small e. form-none form (only-first why small e .1);
       }
 
 -- a refusal by another number is not the checks'
-pub said-after : {A : Type 0} (cs : List Check) (after : Said A) → EachOfForm cs → (number place : ℕ) → 6 < number →
-    judge cs after ≡ refused (reason number place) → after ≡ refused (reason number place)
-said-after cs after each number place large e = go (judged-first cs after e)
+pub said-after : {A : Type 0} (cs : List Check) (after : Said A) → EachOfForm cs → (why : Refusal) → 6 < numberOf why →
+    judge cs after ≡ refused why → after ≡ refused why
+said-after cs after each why large e = go (judged-first cs after e)
   where
-    go : FirstWith cs (reason number place) ⊎ (after ≡ refused (reason number place)) → after ≡ refused (reason number place)
+    go : FirstWith cs why ⊎ (after ≡ refused why) → after ≡ refused why
     go (inl found) =
         let form = first-of-form each (found .1) in
-        let same : form .0 ≡ number = cc (found .2, form .2) in
-        absurd (omega (arith, form .4))
+        absurd (omega (arith, form .1, ap numberOf (found .2)))
     go (inr e) = e

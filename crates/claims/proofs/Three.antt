@@ -31,14 +31,14 @@ module _ (maker depot sheet : List ℕ) where
   unfolding firstSays
   first-nine out e =
       nine-none (kits maker depot sheet)
-      (said-after (orderChecks maker depot sheet out) (handsOut (kits maker depot sheet)) (order-numbers maker depot sheet out) 9 0 (omega arith) e)
+      (said-after (orderChecks maker depot sheet out) (handsOut (kits maker depot sheet)) (order-numbers maker depot sheet out) (reason 9 0) (omega arith) e)
 
   next-nine : (given out : List ℕ) → nextSays maker depot sheet given out ≡ refused (reason 9 0) → kitsAfter maker depot sheet given ≡ []
   unfolding nextSays
   next-nine given out e =
       nine-none (kitsAfter maker depot sheet given)
       (said-after (nextChecks maker depot sheet given out) (handsOut (kitsAfter maker depot sheet given))
-      (next-numbers maker depot sheet given out) 9 0 (omega arith) e)
+      (next-numbers maker depot sheet given out) (reason 9 0) (omega arith) e)
 
   none-left : (out : List ℕ) → firstSays maker depot sheet out ≡ refused (reason 9 0) →
       (l : List ℕ) → Kit (rulesIn maker depot) (length sheet) sheet l → ⊥

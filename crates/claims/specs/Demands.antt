@@ -13,7 +13,7 @@ use Rattle.lemmas.specs.Ascends.{Ascends}
 use Rattle.spec.specs.Records.{Rec, isRule, recordAt, recordCount, rulesIn}
 use Rattle.spec.specs.Facts.{Facts, Closed, Closure, Clash}
 use Rattle.spec.specs.Firing.{Fact, Listed, Run}
-use Rattle.spec.specs.Refusals.{Refusal, reason, Said, refused, answered, Check, sheetChecks, orderChecks, nextChecks}
+use Rattle.spec.specs.Refusals.{Refusal, numberOf, reason, Said, refused, answered, Check, sheetChecks, orderChecks, nextChecks}
 use Rattle.spec.specs.Fits.{breaks, fits, broken, Part, testChecks, testSays, showsPart}
 use Rattle.spec.specs.Fill.{boxesFilled, fillSays, fillWrites}
 use Rattle.spec.specs.Kits.{before, kits, firstSays, firstWrites, nextSays, nextWrites}
@@ -34,14 +34,13 @@ InForm checks = (c : Check) → List·Memᴰ c checks → c .when ≡ false
 pub record RefusesBy {A : Type 0} (checks : List Check) (says : Said A) : Type 0 where
   -- the first check that applies is given
   pub given : (c : Check) → FirstApplies checks c → says ≡ refused (c .why)
-  -- by a number from 1 to 6, and a place
-  pub numbered : (c : Check) → FirstApplies checks c →
-      (number place : ℕ) × (c .why ≡ reason number place) × (0 < number) × (number < 7)
+  -- by a number from 1 to 6
+  pub numbered : (c : Check) → FirstApplies checks c → (0 < numberOf (c .why)) × (numberOf (c .why) < 7)
   -- a refusal by such a number is given only as that of the first check that applies
-  pub only : (number place : ℕ) → number < 7 → says ≡ refused (reason number place) →
-      (c : Check) × FirstApplies checks c × (c .why ≡ reason number place)
+  pub only : (why : Refusal) → numberOf why < 7 → says ≡ refused why →
+      (c : Check) × FirstApplies checks c × (c .why ≡ why)
   -- and where none applies there is none
-  pub none : InForm checks → (number place : ℕ) → number < 7 → says ≡ refused (reason number place) → ⊥
+  pub none : InForm checks → (why : Refusal) → numberOf why < 7 → says ≡ refused why → ⊥
 
 -- where this is said as a refusal, what is left in a buffer is what was lent
 abbrev pub Unchanged : {A : Type 0} → Said A → (left lent : List ℕ) → Type 0

@@ -2,12 +2,12 @@
 -- Assumes nothing.
 use mathlib.Core.Path.{_≡_}
 use mathlib.Core.Bool.{cond}
-use mathlib.Core.List.{List, [], _∷_}
+use mathlib.Core.List.{List}
 use Prim.Native.Nat.{ℕ, _+_}
 use denote.Ref.{RefT, now, ptr}
 use Rattle.spec.specs.Refusals.{Said, refused, answered}
 use Rattle.spec.specs.Fits.{Verdict, fits, broken, Part, bytesOf}
-use Rattle.refusals.specs.Telling.{refusalOf, doneWith}
+use Rattle.refusals.specs.Telling.{refusalOf, doneWith, brokenAt}
 use Rattle.fits.specs.declared.Tested.{Tested}
 use Rattle.fits.specs.declared.Tested.the-variants.{Fits, Broken, Refused}
 
@@ -18,7 +18,7 @@ testedSays (Refused why) = refused (refusalOf why)
 
 abbrev pub verdictNumbers : Verdict → List ℕ
 verdictNumbers fits = doneWith 0
-verdictNumbers (broken number) = 2 ∷ number ∷ 0 ∷ []
+verdictNumbers (broken number) = brokenAt number
 
 -- the part lies in the table that it names, where it says (a place is a block and an offset in it), and has that table's bytes
 pub record Shows (maker depot : RefT (List ℕ)) (part : Part) (r : RefT (List ℕ)) : Type 0 where

@@ -1,4 +1,4 @@
--- The part that Show gives, from the three numbers of Test's answer.
+-- The part that Show gives, from the numbers of Test's answer.
 -- Assumes nothing.
 use mathlib.Core.Path.{_≡_, sym, ap, _∙_}
 use mathlib.Core.Bool.{Bool, true, false}
@@ -13,7 +13,7 @@ use Rattle.refusals.specs.declared.Numbers.{Numbers}
 use Rattle.refusals.specs.Telling.{numbersOf, inOrder}
 use Rattle.records.specs.declared.Where.{Where}
 use Rattle.records.specs.Record.{partOf}
-use Rattle.refusals.proofs.Told.{told-answered}
+use Rattle.refusals.proofs.Told.{told-answered, code-told}
 use Rattle.fits.specs.Answer.{verdictNumbers}
 use Rattle.fits.proofs.Unique.{verdict-codes}
 use Rattle.port.specs.Face.{threeOfPart}
@@ -33,7 +33,7 @@ module _ (n : Numbers) (maker depot l : List ℕ) (e : inOrder n ≡ numbersOf v
   part-none h = sym (ap threeOfPart (shown-empty maker depot l (λ number b. h (code-of number b))))
     where
       code-of : (number : ℕ) → testSays maker depot l ≡ answered (broken number) → n .code ≡ 2
-      code-of number b = let all : inOrder n ≡ 2 ∷ number ∷ 0 ∷ [] = e ∙ ap (numbersOf verdictNumbers) b in cc
+      code-of number b = code-told n (e ∙ ap (numbersOf verdictNumbers) b)
 
   module _ (h : n .code ≡ 2) where
     says-so : answered (broken (n .first)) ≡ testSays maker depot l

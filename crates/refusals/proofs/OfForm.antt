@@ -1,4 +1,5 @@
--- A refusal of form: its number is below 7, and number and place tell it from every other; so an answer is told from every other.
+-- A refusal had back from what is told of it. One of form: its number is below 7, and number and place tell it from every other; so an
+-- answer is told from every other.
 -- Assumes nothing.
 use mathlib.Core.Path.{_≡_, refl, sym, ap, _∙_}
 use mathlib.Core.Bool.{cond}
@@ -8,15 +9,16 @@ use native.Mathlib.Omega.{arith}
 use borrow.Author.Tests.{lt-ltb}
 use lib.Dec.{ltb}
 use lib.ListN.{getD}
-use Rattle.spec.specs.Refusals.{Refusal as Numbered, numbered, Said, Does}
+use Rattle.spec.specs.Refusals.{Refusal as Numbered, numbered, numberOf, Said, Does}
 use Rattle.spec.proofs.Judge.{does-unique}
 use Rattle.refusals.specs.declared.Refusal.{Refusal}
 use Rattle.refusals.specs.declared.Refusal.the-variants.{BoxCount, MakerLength, DepotLength, RecordCount, BadRecord, SheetByte, GivenLength}
 use Rattle.refusals.specs.declared.Refusal.the-variants.{OutLength, ListByte}
-use Rattle.refusals.specs.Telling.{refusalOf}
+use Rattle.refusals.specs.Telling.{refusalOf, refusedNumbers, numbersFrom, refusalIn}
 
-abbrev pub numberOf : Numbered → ℕ
-numberOf (numbered number place) = number
+-- any refusal is had back from its numbers
+pub numbers-back : (why : Numbered) → refusalIn (numbersFrom (refusedNumbers why)) ≡ why
+numbers-back (numbered number place) = refl
 
 pub form-number : (why : Refusal) → numberOf (refusalOf why) < 7
 form-number BoxCount = omega arith

@@ -7,7 +7,7 @@ ghost use Prim.Native.Nat.{_+_, _≤_};
 ghost use lib.ListN.{length};
 ghost use Rattle.text.specs.Putting.{PutWithin};
 ghost use Rattle.spec.specs.Refusals.{reason};
-ghost use Rattle.refusals.specs.Telling.{refusalOf, refusedNumbers, doneWith, inOrder, refusalIn, refusedWords};
+ghost use Rattle.refusals.specs.Telling.{refusalOf, refusedNumbers, doneWith, inOrder, refusalIn, refusedWords, refusalRoom};
 use text::put_field;
 
 pub enum Refusal {
@@ -57,6 +57,13 @@ pub fn refused(number: usize, place: usize) -> Numbers
     three(REFUSED, number, place)
 }
 
+// By itself, since of a bad record more may be told than of the others.
+fn bad_record(number: usize) -> Numbers
+    ensures { λ r. ⌜ inOrder r ≡ refusedNumbers (reason 3 number) ⌝ }
+{
+    refused(3, number)
+}
+
 pub fn of_refusal(why: Refusal) -> Numbers
     ensures { λ r. ⌜ inOrder r ≡ refusedNumbers (refusalOf why) ⌝ }
 {
@@ -65,7 +72,7 @@ pub fn of_refusal(why: Refusal) -> Numbers
         Refusal::MakerLength => refused(2, 0),
         Refusal::DepotLength => refused(2, 1),
         Refusal::RecordCount => refused(2, 2),
-        Refusal::BadRecord(number) => refused(3, number),
+        Refusal::BadRecord(number) => bad_record(number),
         Refusal::SheetByte(b) => refused(4, b),
         Refusal::GivenLength => refused(5, 0),
         Refusal::OutLength => refused(5, 1),
@@ -75,8 +82,8 @@ pub fn of_refusal(why: Refusal) -> Numbers
 
 // Puts a refusal in words: `refused`, its number, its place.
 pub fn put_refused(text: &mut [u8], at: usize, said: Numbers) -> usize
-    requires { ⌜ at + 50 ≤ length (now text) ⌝ }
-    ensures { λ r. ⌜ PutWithin 50 (now (text .entry)) at (refusedWords (refusalIn said)) (now (text .exit)) r ⌝ }
+    requires { ⌜ at + refusalRoom ≤ length (now text) ⌝ }
+    ensures { λ r. ⌜ PutWithin refusalRoom (now (text .entry)) at (refusedWords (refusalIn said)) (now (text .exit)) r ⌝ }
 {
     let next = put_field(text, at, b"refused ", said.first as usize);
     put_field(text, next, b" ", said.second as usize)

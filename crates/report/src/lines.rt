@@ -3,7 +3,7 @@ ghost use Prim.Native.Nat.{ℕ, _+_, _≤_, _<_};
 ghost use lib.ListN.{length, getD};
 ghost use Rattle.text.specs.Spelling.{ascii};
 ghost use Rattle.text.specs.Putting.{Put, PutWithin};
-ghost use Rattle.refusals.specs.Telling.{refusalIn};
+ghost use Rattle.refusals.specs.Telling.{refusalIn, refusalRoom};
 ghost use Rattle.report.specs.Listing.{refusedLine, headerLine, listLine, endLine};
 use refusals::Numbers;
 use text::put_byte;
@@ -12,8 +12,8 @@ use text::put_digits;
 use text::put_field;
 
 pub fn put_refused(out: &mut [u8], said: Numbers) -> usize
-    requires { ⌜ 51 ≤ length (now out) ⌝ }
-    ensures { λ r. ⌜ PutWithin 51 (now (out .entry)) 0 (refusedLine (refusalIn said)) (now (out .exit)) r ⌝ }
+    requires { ⌜ refusalRoom + 1 ≤ length (now out) ⌝ }
+    ensures { λ r. ⌜ PutWithin (refusalRoom + 1) (now (out .entry)) 0 (refusedLine (refusalIn said)) (now (out .exit)) r ⌝ }
 {
     let next = refusals::put_refused(out, 0, said);
     put_byte(out, next, b'\n')

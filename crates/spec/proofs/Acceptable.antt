@@ -15,7 +15,7 @@ use Rattle.spec.specs.Rules.{rulesOf}
 use Rattle.spec.specs.Records.{Rec, recFrom, recordAt, isRule, rulesIn, boxAt, boxesOf, noKind, lacksZ, twoEqual, bad, recordCount}
 use Rattle.spec.specs.Facts.{holds, Closure, settled, fires, Clash}
 use Rattle.spec.specs.Rounds.{has, names, gives, follows, code, round, closed}
-use Rattle.spec.specs.Refusals.{numbered, Said, reason, refused, answered, isAnswered, passed, Check, judge}
+use Rattle.spec.specs.Refusals.{numberOf, placeOf, Said, reason, refused, answered, isAnswered, passed, Check, judge}
 use Rattle.spec.specs.Refusals.{boxesCheck, makerCheck, depotCheck, countCheck, recordCheck, sheetCheck, givenCheck, outCheck, listCheck}
 use Rattle.spec.specs.Fits.{isIn, breaks, isBroken, firstBroken, fits, broken, testJudges, testSays, Part, recordPart, showsPart, bytesOf}
 use Rattle.spec.specs.Fill.{closureOf, clashes, openCount, clashCheck, brokenCheck, fillJudges, fillSays, fillWrites}
@@ -84,7 +84,7 @@ unfolding kindOf meaning boxAt isIn breaks
 truth-limits = refl
 
 -- a refusal is its number and its place, in this order, and no answer
-pub reason-limits : Agree ((reason 1 2, numbered 1 2) ∷ [])
+pub reason-limits : Agree ((numberOf (reason 1 2), 1) ∷ (placeOf (reason 1 2), 2) ∷ [])
 reason-limits = refl
 
 pub answered-limits : Agree ((isAnswered {A = Unit {0}} (refused (reason 1 2)), false) ∷ (isAnswered passed, true) ∷ [])

@@ -16,6 +16,13 @@ pub data Refusal : Type 0 where
 abbrev pub reason : (number place : ℕ) → Refusal
 reason number place = numbered number place
 
+-- who takes one apart goes by these
+abbrev pub numberOf : Refusal → ℕ
+numberOf (numbered number place) = number
+
+abbrev pub placeOf : Refusal → ℕ
+placeOf (numbered number place) = place
+
 -- what an operation says: that it is refused, and why; or an answer of its own kind
 pub data Said (A : Type 0) : Type 0 where
   refused : (why : Refusal) → Said A

@@ -10,7 +10,7 @@ use borrow.Author.Needs.{needs}
 use Rattle.port.proofs.angatupyi_show.Statement.{statement}
 use Rattle.port.proofs.angatupyi_show.Tie as tie
 
--- the three numbers are those of what Test says
+-- the numbers are those of what Test says
 told : (c : tie.After-numbers) →
     let a = c .before .before .before .before .before .args in
     inOrder (c .numbers .result) ≡ numbersOf verdictNumbers (testSays (a .maker .now) (a .depot .now) (a .list .now))

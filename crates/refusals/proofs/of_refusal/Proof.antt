@@ -39,32 +39,32 @@ refused-requires-4 c κs = search needs
 enum-known-why : tie.Need-enum-known-why
 enum-known-why c = search needs
 
-refused-requires-5 : tie.Need-refused-requires-5
-refused-requires-5 c κs = search needs
+bad-record-requires : tie.Need-bad-record-requires
+bad-record-requires c κs = search needs
 
 enum-known-why-2 : tie.Need-enum-known-why-2
 enum-known-why-2 c = search needs
 
-refused-requires-6 : tie.Need-refused-requires-6
-refused-requires-6 c κs = search needs
+refused-requires-5 : tie.Need-refused-requires-5
+refused-requires-5 c κs = search needs
 
 enum-told-5 : tie.Need-enum-told-5
 enum-told-5 c = search needs
 
-refused-requires-7 : tie.Need-refused-requires-7
-refused-requires-7 c κs = search needs
+refused-requires-6 : tie.Need-refused-requires-6
+refused-requires-6 c κs = search needs
 
 enum-told-6 : tie.Need-enum-told-6
 enum-told-6 c = search needs
 
-refused-requires-8 : tie.Need-refused-requires-8
-refused-requires-8 c κs = search needs
+refused-requires-7 : tie.Need-refused-requires-7
+refused-requires-7 c κs = search needs
 
 enum-known-why-3 : tie.Need-enum-known-why-3
 enum-known-why-3 c = search needs
 
-refused-requires-9 : tie.Need-refused-requires-9
-refused-requires-9 c κs = search needs
+refused-requires-8 : tie.Need-refused-requires-8
+refused-requires-8 c κs = search needs
 
 returns : tie.Need-returns
 returns c = told tells (c .before .enum-told .given .1) (c .refused .ensures)
@@ -79,19 +79,19 @@ returns-4 : tie.Need-returns-4
 returns-4 c = told tells (c .before .enum-told4 .given .1) (c .refused4 .ensures)
 
 returns-5 : tie.Need-returns-5
-returns-5 c = told tells (c .before .before .why .given .1) (c .refused5 .ensures)
+returns-5 c = told tells (c .before .before .why .given .1) (c .bad-record .ensures)
 
 returns-6 : tie.Need-returns-6
-returns-6 c = told tells (c .before .before .why2 .given .1) (c .refused6 .ensures)
+returns-6 c = told tells (c .before .before .why2 .given .1) (c .refused5 .ensures)
 
 returns-7 : tie.Need-returns-7
-returns-7 c = told tells (c .before .enum-told5 .given .1) (c .refused7 .ensures)
+returns-7 c = told tells (c .before .enum-told5 .given .1) (c .refused6 .ensures)
 
 returns-8 : tie.Need-returns-8
-returns-8 c = told tells (c .before .enum-told6 .given .1) (c .refused8 .ensures)
+returns-8 c = told tells (c .before .enum-told6 .given .1) (c .refused7 .ensures)
 
 returns-9 : tie.Need-returns-9
-returns-9 c = told tells (c .before .before .why3 .given .1) (c .refused9 .ensures)
+returns-9 c = told tells (c .before .before .why3 .given .1) (c .refused8 .ensures)
 
 pub of-refusal-spec : {M : Type 1} → statement M
 of-refusal-spec =
@@ -106,15 +106,15 @@ of-refusal-spec =
     enum-told-4
     refused-requires-4
     enum-known-why
-    refused-requires-5
+    bad-record-requires
     enum-known-why-2
-    refused-requires-6
+    refused-requires-5
     enum-told-5
-    refused-requires-7
+    refused-requires-6
     enum-told-6
-    refused-requires-8
+    refused-requires-7
     enum-known-why-3
-    refused-requires-9
+    refused-requires-8
     returns
     returns-2
     returns-3

@@ -2,6 +2,7 @@
 -- Assumes nothing.
 use native.Mathlib.Omega.{arith}
 use Rattle.text.specs.Spelling.{field}
+use Rattle.refusals.specs.Telling.{refusalRoom}
 use Rattle.text.proofs.Rooms.{room-then, room-within}
 use borrow.Author.Needs.{needs}
 use Rattle.refusals.proofs.put_refused.Statement.{statement}
@@ -26,7 +27,7 @@ returns : tie.Need-returns
 returns c =
     let start = c .before .before .before .before .before .before .before .before .before .before .before in
     let first = c .before .before .before .before .before .before .before .put-field .ensures in
-    room-within 50 (omega arith) (room-then {b = field " " (start .args .said .second)} first (c .before .before .put-field2 .ensures))
+    room-within refusalRoom (omega arith) (room-then {b = field " " (start .args .said .second)} first (c .before .before .put-field2 .ensures))
 
 pub put-refused-spec : {M : Type 1} → statement M
 put-refused-spec =

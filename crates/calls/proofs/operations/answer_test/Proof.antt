@@ -1,4 +1,4 @@
--- `calls::operations::answer_test` meets its contract: what it says, by the first of the three numbers.
+-- `calls::operations::answer_test` meets its contract: what it says, by the first of the numbers.
 -- Assumes nothing.
 use native.Mathlib.Omega.{arith}
 use Rattle.text.proofs.Rooms.{room-within}

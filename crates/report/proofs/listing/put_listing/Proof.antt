@@ -1,6 +1,6 @@
 -- `report::listing::put_listing` meets its contract: what is put is the listing by what Fill says.
 -- Assumes nothing.
-use mathlib.Core.Path.{_≡_, ap, _∙_}
+use mathlib.Core.Path.{_≡_, sym, ap, _∙_}
 use mathlib.Core.List.{List, [], _∷_}
 use Prim.Native.Nat.{ℕ}
 use native.Mathlib.Omega.{arith}
@@ -8,8 +8,8 @@ use borrow.Author.Needs.{needs}
 use Rattle.spec.specs.Refusals.{refused, answered}
 use Rattle.spec.specs.Kits.{kits}
 use Rattle.text.proofs.Rooms.{room-then, room-within, room-length}
-use Rattle.refusals.specs.Telling.{doneWith, inOrder, refusalIn}
-use Rattle.refusals.proofs.Told.{told-refused, told-answered}
+use Rattle.refusals.specs.Telling.{doneWith, refusalIn}
+use Rattle.refusals.proofs.Told.{told-refused, told-answered, count-told}
 use Rattle.fill.specs.Answer.{filledSays}
 use Rattle.fill.proofs.Unique.{count-codes}
 use Rattle.report.specs.Listing.{kitLines, page}
@@ -40,9 +40,7 @@ filled-said c =
     let numbers = c .before .before in
     let said =
     told-answered doneWith count-codes (numbers .numbers .result) (filledSays (fill-of numbers .fill .result)) (numbers .numbers .ensures) (c .if1 .left) in
-    let order : inOrder (numbers .numbers .result) ≡ 0 ∷ said .0 ∷ 0 ∷ [] = said .2 in
-    let first : said .0 ≡ numbers .numbers .result .first = cc in
-    said .1 ∙ ap answered first
+    said .1 ∙ ap answered (sym (count-told (numbers .numbers .result) (said .0) (said .2)))
 
 fill-requires : tie.Need-fill-requires
 fill-requires c κs = search needs
