@@ -171,7 +171,7 @@ fn drain(
                 tail = end;
             }
             Move::Clash => {
-                return true;
+                return true; // no box is stored with both facts, so nothing more is taken
             }
         }
         head += 1;
