@@ -2,23 +2,20 @@
 -- Assumes nothing.
 use mathlib.Core.Path.{_≡_, sym, subst, _∙_}
 use mathlib.Core.Logic.{⊎-elim}
-use mathlib.Core.Bool.{Bool, true, false}
-use mathlib.Core.List.{List, List·Memᴰ}
+use mathlib.Core.List.{List}
 use Prim.Native.Nat.{ℕ, _+_, _*_, _≤_, _<_}
 use native.Mathlib.Omega.{arith}
 use native.Mathlib.Decide.{ℕ-discrete}
-use lib.ListN.{length, getD}
+use lib.ListN.{length, getD, replicate}
 use Rattle.spec.specs.Records.{Rec}
-use Rattle.theory.specs.Steps.{Stable, Grown}
-use Rattle.theory.proofs.Growth.{grown-refl, grown-trans, grown-clash}
-use Rattle.engine.specs.Moves.{Cells, AllStable, Rested}
-use Rattle.engine.specs.Index.{Linked, Chained}
-use Rattle.engine.specs.Queue.{Lent, Poised, HasBox, NamesBox, Waits, rests, named, AllWait, SweptTo, VisitedTo}
+use Rattle.theory.specs.Steps.{Stable}
+use Rattle.engine.specs.Moves.{Cells, AllStable}
+use Rattle.index.specs.Index.{Linked, Chained}
+use Rattle.engine.specs.Queue.{Lent, Poised, HasBox, NamesBox, Waits, rests, named, AllWait, VisitedTo}
 use Rattle.theory.proofs.Measure.{open-within, open-fewer}
 use Rattle.engine.proofs.Queueing.{has-later}
 use Rattle.engine.proofs.Settled.{cells-read}
 use Rattle.engine.proofs.Waiting.{stable-waits, waits-from}
-use Rattle.engine.proofs.Running.{lent-ran}
 
 pub chained : {packed : List ℕ} {m : ℕ} {first next : List ℕ} {b : ℕ} → Linked packed (4 * m) first next → b < 256 →
     Chained packed m next b (getD first b 0)
@@ -54,6 +51,9 @@ module _ {qs : List Rec} {t queue : List ℕ} {head tail : ℕ} (waits : AllWait
       at (named b names has) = left b names has (ℕ-discrete (has .at) head)
 
 -- an empty queue
+abbrev pub zeros : List ℕ
+zeros = replicate 256 0
+
 pub lent-empty : {s queue : List ℕ} → Cells s → length queue ≡ 256 → Lent s queue 0
 lent-empty {s} cells size = record { cells = cells; size = size; room = omega (arith, open-within s, cells .size) }
 
@@ -75,37 +75,3 @@ module _ {qs : List Rec} {s : List ℕ} {b : ℕ} (cells : Cells s) (below : b <
     pub poised-waits : getD queue 0 0 ≡ b → AllWait qs s queue 0 1
     poised-waits alone q m =
         ⊎-elim rests (λ w. named b (w .1) (record { at = 0; after = omega arith; before = omega arith; is = alone })) (poised q m)
-
--- sweeps one after the other, since the first: the boxes that the last one settled are in the queue from `start` on
-pub record Sweeping (qs : List Rec) (s t queue : List ℕ) (start end : ℕ) : Type 0 where
-  pub lent : Lent t queue end
-  pub grown : Grown qs s t
-  pub within : start ≤ end
-  pub waits : AllWait qs t queue start end
-
-pub sweeping-first : {qs : List Rec} {s t queue queue′ : List ℕ} {end : ℕ} → Lent s queue 0 → SweptTo qs s t queue queue′ 0 end →
-    Sweeping qs t t queue′ 0 end
-sweeping-first {qs} {t = t} lent swept =
-    record {
-      lent = lent-ran lent (swept .ran);
-      grown = grown-refl qs t (swept .ran .grown .sheet);
-      within = omega arith;
-      waits = swept .waits;
-    }
-
-module _ {qs : List Rec} {s t queue : List ℕ} {start end : ℕ} (so : Sweeping qs s t queue start end) where
-  pub sweeping-next : {u queue′ : List ℕ} {end′ : ℕ} → SweptTo qs t u queue queue′ end end′ → Sweeping qs s u queue′ end end′
-  sweeping-next swept =
-      record {
-        lent = lent-ran (so .lent) (swept .ran);
-        grown = grown-trans (so .grown) (swept .ran .grown);
-        within = swept .ran .queued .later;
-        waits = swept .waits;
-      }
-
-  pub sweeping-rested : (u : List ℕ) (clash : Bool) → Rested qs t u clash → Rested qs s u clash
-  sweeping-rested u true clash = (clash .0, grown-clash (so .grown) (clash .1))
-  sweeping-rested u false rested = (grown-trans (so .grown) (rested .0), rested .1)
-
-  pub sweeping-end : end ≤ start → Rested qs s t false
-  sweeping-end none = (so .grown, drain-end (so .waits) none)

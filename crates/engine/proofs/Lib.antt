@@ -1,6 +1,3 @@
-pub mod Rules
-pub mod Packing
-pub mod Linking
 pub mod Queueing
 pub mod Settled
 pub mod OneRecord
@@ -9,3 +6,4 @@ pub mod Running
 pub mod Sweeping
 pub mod Visiting
 pub mod Draining
+pub mod Sweeps

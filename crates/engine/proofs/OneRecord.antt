@@ -19,7 +19,7 @@ use Rattle.theory.proofs.Stepping.{RecordFires, sheet-three, states-sheet, new-
 use Rattle.theory.proofs.Measure.{grown-kept}
 use Rattle.fire.specs.States.{three, OnSheet, closedAlone, Rests}
 use Rattle.engine.specs.Moves.{Cells}
-use Rattle.engine.specs.Index.{ruleOf}
+use Rattle.index.specs.Index.{ruleOf}
 use Rattle.engine.specs.Queue.{Queued, Settling, StepInput, Fired}
 use Rattle.engine.proofs.Queueing.{queued-refl, queued-trans}
 use Rattle.engine.proofs.Settled.{SettledTo, cells-read, settle-lent}
@@ -43,34 +43,27 @@ rule-state-z kind x y z {s} cells below = at (lacksZ (kindOf kind))
     at true = refl
     at false = sym (cells-read cells z below)
 
--- a z that is missing is taken as open
-pub missing-state : (q : Rec) (s : List ℕ) → zMissing q ≡ true → stateZ q s ≡ 2
-unfolding stateZ
-missing-state q s missing = rw missing
-
+-- a z that is there is read
 there-state : (q : Rec) (s : List ℕ) → zMissing q ≡ false → stateZ q s ≡ getD s (q .z) 2
 unfolding stateZ
 there-state q s there = rw there
 
 module _ {q : Rec} {s queue : List ℕ} {tail : ℕ} (input : StepInput q s queue tail) where
   -- the indices that a step reads
-  pub x-below : q .x < 256
+  x-below : q .x < 256
   x-below = good-x 256 q (input .good)
 
-  pub y-below : q .y < 256
+  y-below : q .y < 256
   y-below = good-y 256 q (input .good)
 
-  pub z-below : {z : ℕ} → q .z ≡ z → zMissing q ≡ false → z < 256
+  z-below : {z : ℕ} → q .z ≡ z → zMissing q ≡ false → z < 256
   z-below is there = omega (arith, good-z 256 q (input .good) there)
 
   read : (b : ℕ) → b < 256 → getD s b 0 ≡ getD s b 2
   read = cells-read (input .lent .cells)
 
-  pub state-below : (b : ℕ) → b < 256 → getD s b 0 ≤ 2
+  state-below : (b : ℕ) → b < 256 → getD s b 0 ≤ 2
   state-below b h = rw (read b h) (input .lent .cells .sheet b)
-
-  pub z-read : {z : ℕ} → q .z ≡ z → zMissing q ≡ false → stateZ q s ≡ getD s z 0
-  z-read {z} is there = there-state q s there ∙ ap (λ (b : ℕ). getD s b 2) is ∙ sym (read z (z-below is there))
 
   names : (p : Place) → T (named (kindOf (q .kind)) p) → Names q p
   names = named-names q (good-kind 256 q (input .good))

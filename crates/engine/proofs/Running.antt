@@ -1,6 +1,6 @@
 -- Steps of rules one after the other: the states grow, the queue grows with them, and a clash of one is a clash of all.
 -- Assumes nothing.
-use mathlib.Core.Path.{_≡_, sym, subst, _∙_}
+use mathlib.Core.Path.{sym, subst, _∙_}
 use mathlib.Core.Bool.{Bool, true, false}
 use mathlib.Core.List.{List, [], _∷_, List·Memᴰ, List·Memᴰ·eq-of-singleton}
 use Prim.Native.Nat.{ℕ}
@@ -9,7 +9,7 @@ use Rattle.spec.proofs.Least.{closure-mono}
 use Rattle.theory.specs.Steps.{IsSheet, Grown}
 use Rattle.theory.proofs.Growth.{grown-refl, grown-trans, grown-clash}
 use Rattle.engine.specs.Moves.{SomeClash, Rested}
-use Rattle.engine.specs.Queue.{Lent, Queued, Fired, Ran}
+use Rattle.engine.specs.Queue.{Lent, Fired, Ran}
 use Rattle.engine.proofs.Queueing.{queued-refl, queued-trans, lent-later}
 
 -- what one rule derives, all rules derive

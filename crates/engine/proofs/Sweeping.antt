@@ -1,7 +1,6 @@
 -- A sweep: records have their step one after the other, and what each settles is queued for those that have had theirs.
 -- Assumes nothing.
-use mathlib.Core.Path.{_≡_, refl, sym, subst, subst⁻¹, _∙_}
-use mathlib.Core.Logic.{_⊎_, inl, inr, ⊎-elim}
+use mathlib.Core.Path.{_≡_, refl, sym, subst, subst⁻¹}
 use mathlib.Core.Bool.{Bool, true, false, true≢false}
 use mathlib.Core.List.{List, List·Memᴰ}
 use Prim.Native.Nat.{ℕ, _+_, _-_, _≤_, _<_}
@@ -32,7 +31,7 @@ module _ (q : Rec) (t u queue queue′ : List ℕ) (tail : ℕ) where
   stepped-rests tail′ false is fired = absurd (true≢false (sym is))
 
   stepped-clash : (qs : List Rec) (counts : Bool) → (counts ≡ true → List·Memᴰ q qs) → RecordStepped counts q t u queue queue′ tail Clash → SomeClash qs t
-  stepped-clash qs true member clash = fired-clash (member refl) t clash
+  stepped-clash qs true member clashed = fired-clash (member refl) t (clashed .clash)
   stepped-clash qs false member (e, e′, e″) = let z : _≡_ {A = ℕ} 0 1 = cc in absurd (omega arith)
 
 -- the records that have had their step before the i-th of a sweep, forward or back

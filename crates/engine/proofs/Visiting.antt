@@ -1,18 +1,17 @@
 -- A box's chain is gone along: the rules at the entries above have had their step, and what each settled is queued.
 -- Assumes nothing.
-use mathlib.Core.Path.{_≡_, sym, subst, subst⁻¹, _∙_}
+use mathlib.Core.Path.{_≡_, subst, subst⁻¹, _∙_}
 use mathlib.Core.Logic.{_⊎_, inl, inr, ⊎-elim}
 use mathlib.Core.List.{List, [], _∷_, List·Memᴰ}
-use Prim.Native.Nat.{ℕ, _*_, _/_, _≤_, _<_}
+use Prim.Native.Nat.{ℕ, _*_, _/_, _<_}
 use native.Mathlib.Omega.{arith}
 use native.Mathlib.Decide.{ℕ-discrete, decLt}
 use Rattle.spec.specs.Kinds.{Place, X, Y, Z}
 use Rattle.spec.specs.Records.{Rec}
 use Rattle.theory.specs.Steps.{IsSheet}
-use Rattle.engine.specs.Moves.{SomeClash}
-use Rattle.engine.specs.Index.{ruleAt, packedRules, entryOf, Held, Top}
-use Rattle.engine.specs.Queue.{Fired, Waits, rests, Ran, VisitedTo}
-use Rattle.engine.proofs.Linking.{held-number, below-held, held-member, member-held}
+use Rattle.index.specs.Index.{ruleAt, packedRules, entryOf, Held, Top}
+use Rattle.engine.specs.Queue.{Fired, Clashed, Waits, rests, Ran, VisitedTo}
+use Rattle.index.proofs.Linking.{held-number, below-held, held-member, member-held}
 use Rattle.engine.proofs.Waiting.{waits-queued}
 use Rattle.engine.proofs.Running.{ran-refl, ran-trans, ran-clash, fired-ran, fired-clash}
 
@@ -68,8 +67,9 @@ module _ (packed : List ℕ) (m b : ℕ) where
       member : List·Memᴰ (ruleAt packed (e / 4)) rules
       member = held-member packed rule-below
 
-      pub visit-clash : SomeClash (ruleAt packed (e / 4) ∷ []) t → SomeClash rules s
-      visit-clash clash = ran-clash (so .ran) (fired-clash member t clash)
+      pub visit-clash : {queue″ : List ℕ} → Clashed (ruleAt packed (e / 4) ∷ []) t queue′ queue″ → Clashed rules s queue queue″
+      visit-clash clashed =
+          record { clash = ran-clash (so .ran) (fired-clash member t (clashed .clash)); size = clashed .size ∙ so .ran .queued .size }
 
       pub visit-step : {u queue″ : List ℕ} {tail″ : ℕ} → Fired (ruleAt packed (e / 4)) t u queue′ queue″ tail′ tail″ →
           (after : ℕ) → Top packed b e after → Above s u queue queue″ tail tail″ after

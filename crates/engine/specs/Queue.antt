@@ -48,15 +48,20 @@ pub record StepInput (q : Rec) (s queue : List ℕ) (tail : ℕ) : Type 0 where
   pub good : bad 256 q ≡ false
   pub lent : Lent s queue tail
 
--- every rule of one record has fired: it is at rest, and what it settled is queued; or a clash
+-- every rule of one record has fired: it is at rest, and what it settled is queued
 pub record Fired (q : Rec) (s t queue queue′ : List ℕ) (tail tail′ : ℕ) : Type 0 where
   pub grown : Grown (q ∷ []) s t
   pub stable : Stable q t
   pub queued : Queued s t queue queue′ tail tail′
 
+-- a clash of these rules; whatever was queued before it, the queue has its size still
+pub record Clashed (qs : List Rec) (s queue queue′ : List ℕ) : Type 0 where
+  pub clash : SomeClash qs s
+  pub size : length queue′ ≡ length queue
+
 abbrev pub Stepped : Rec → (s t queue queue′ : List ℕ) → ℕ → Move → Type 0
 Stepped q s t queue queue′ tail (Noted tail′) = Fired q s t queue queue′ tail tail′
-Stepped q s t queue queue′ tail Clash = SomeClash (q ∷ []) s
+Stepped q s t queue queue′ tail Clash = Clashed (q ∷ []) s queue queue′
 
 -- a record of the tables has had its step: its rules have fired if it counts as one, and else nothing changed
 abbrev pub RecordStepped : (counts : Bool) → Rec → (s t queue queue′ : List ℕ) → ℕ → Move → Type 0
@@ -96,7 +101,7 @@ pub record VisitedTo (qs : List Rec) (b : ℕ) (s t queue queue′ : List ℕ) (
 
 abbrev pub Visited : List Rec → ℕ → (s t queue queue′ : List ℕ) → ℕ → Move → Type 0
 Visited qs b s t queue queue′ tail (Noted tail′) = VisitedTo qs b s t queue queue′ tail tail′
-Visited qs b s t queue queue′ tail Clash = SomeClash qs s
+Visited qs b s t queue queue′ tail Clash = Clashed qs s queue queue′
 
 -- only box b is settled since every rule was at rest
 abbrev pub Poised : List Rec → List ℕ → ℕ → Type 0

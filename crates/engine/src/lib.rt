@@ -1,6 +1,5 @@
 // The engine: states are filled until every rule is at rest. Sweeps go over all records; where two of them don't suffice, a queue of
 // the boxes that were settled, and the index of the rules that name each. The states are lent, so that no step copies them.
-pub mod index;
 mod step;
 
 ghost use mathlib.Core.Path.{_≡_};
@@ -11,7 +10,7 @@ ghost use Rattle.spec.proofs.Named.{Good};
 ghost use Rattle.spec.proofs.Accepted.{Accepted};
 ghost use Rattle.engine.specs.Moves.{Cells, Rested};
 ghost use Rattle.records.specs.Record.{asRec};
-ghost use Rattle.engine.specs.Index.{Packed, Linked, Chained, ruleAt, packedRules};
+ghost use Rattle.index.specs.Index.{Packed, Linked, Chained, ruleAt, packedRules};
 ghost use Rattle.engine.specs.Queue.{Lent, StepInput, Stepped, RecordStepped, AllWait, Swept, Visited, Poised};
 use fire::at_rest;
 use index::box_of;
@@ -160,6 +159,7 @@ fn drain(
     requires { ⌜ from ≤ to ⌝ }
     requires { ⌜ AllWait (packedRules (now packed) m) (now states) (now queue) from to ⌝ }
     ensures { λ r. ⌜ Rested (packedRules (now (packed .entry)) m) (now (states .entry)) (now (states .exit)) r ⌝ }
+    ensures { λ _. ⌜ length (now (queue .exit)) ≡ 256 ⌝ }
 {
     let mut head = from;
     let mut tail = to;
@@ -204,11 +204,11 @@ fn run_queue<'a>(
 
 // How many sweeps may follow the first. Over few records many of them cost less than one index; over many, one more at most.
 fn more_sweeps(records: usize) -> usize {
-    if records <= 10 {
+    if records <= 12 {
         return 20;
     }
     if records <= 40 {
-        return 5;
+        return 4;
     }
     1
 }
@@ -286,18 +286,20 @@ pub fn go_on(
     next: &[u16; 4096],
     b: usize,
     states: &mut [u8; 256],
+    queue: &mut [u8; 256],
 ) -> bool
     requires { ⌜ Packed (now packed) m (packedRules (now packed) m) ⌝ }
     requires { ⌜ Linked (now packed) (4 * m) (now first) (now next) ⌝ }
     requires { ⌜ Cells (now states) ⌝ }
     requires { ⌜ b < 256 ⌝ }
     requires { ⌜ Poised (packedRules (now packed) m) (now states) b ⌝ }
+    requires { ⌜ length (now queue) ≡ 256 ⌝ }
     ensures { λ r. ⌜ Rested (packedRules (now (packed .entry)) m) (now (states .entry)) (now (states .exit)) r ⌝ }
+    ensures { λ _. ⌜ length (now (queue .exit)) ≡ 256 ⌝ }
 {
-    let mut queue = [0; 256];
     if states[b] == OPEN {
         return false;
     }
     queue[0] = b as u8;
-    drain(packed, m, first, next, states, &mut queue, 0, 1)
+    drain(packed, m, first, next, states, queue, 0, 1)
 }

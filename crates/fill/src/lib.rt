@@ -1,5 +1,6 @@
 // The public operation Fill: the checks, the engine, and what is written.
 ghost use mathlib.Core.Path.{_≡_};
+ghost use Prim.Native.Nat.{_≤_};
 ghost use lib.ListN.{length};
 ghost use Rattle.spec.proofs.Accepted.{WholeRecords, AcceptedSheet};
 ghost use Rattle.refusals.specs.Telling.{doneWith, numbersOf, inOrder};
@@ -9,6 +10,7 @@ use accept::check_order;
 use broken::first_broken;
 use engine::run;
 use records::count;
+use records::states::OPEN;
 use refusals::Numbers;
 use refusals::Refusal;
 use refusals::done;
@@ -47,6 +49,7 @@ fn hand_out<'a>(
     out: &mut [u8],
 ) -> Filled
     requires { ⌜ WholeRecords (now maker) (now depot) ⌝ }
+    requires { ⌜ length (now sheet) ≤ 256 ⌝ }
     requires { ⌜ FillsTo (now maker) (now depot) (now sheet) (now filled) ⌝ }
     requires { ⌜ length (now out) ≡ length (now sheet) ⌝ }
     ensures { λ r. ⌜ FillDoesInForm (now (maker .entry)) (now (depot .entry)) (now (sheet .entry)) (now (out .entry)) r (now (out .exit)) ⌝ }
@@ -73,8 +76,8 @@ fn fill_accepted<'a>(
     requires { ⌜ length (now out) ≡ n ⌝ }
     ensures { λ r. ⌜ FillDoesInForm (now (maker .entry)) (now (depot .entry)) (now (sheet .entry)) (now (out .entry)) r (now (out .exit)) ⌝ }
 {
-    let loaded = load(sheet);
-    let mut states = loaded.states;
+    let mut states = [OPEN; 256];
+    load(sheet, &mut states);
     if run(maker, depot, &mut states) {
         return Filled::Clash;
     }

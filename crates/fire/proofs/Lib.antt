@@ -3,3 +3,4 @@ pub mod Agree
 pub mod Fired
 pub mod Table
 pub mod AtRest
+pub mod Closures

@@ -43,11 +43,3 @@ getD-set P l i v d new old j = at (ℕ-discrete j i) (decLt i (length l))
     at (no other) in′ = rw (getD-set-other l i j v d other) (old j)
     at (yes same) (yes in′) = rw (same, getD-set-same l i v d in′) new
     at (yes same) (no out) = rw (set-out l i v (omega arith)) (old j)
-
--- where something else is read than past the end, it is read before the end
-pub getD-within : {A : Type 0} (l : List A) (i : ℕ) (d : A) → (getD l i d ≡ d → ⊥) → i < length l
-getD-within l i d h = at (decLt i (length l))
-  where
-    at : Dec (i < length l) → i < length l
-    at (yes below) = below
-    at (no above) = absurd (h (List·getD-eq-default l d {n = i} (omega arith)))

@@ -3,7 +3,7 @@
 use mathlib.Core.Path.{_≡_, refl, sym, _∙_}
 use mathlib.Core.Bool.{Bool, true, false}
 use mathlib.Core.List.{List}
-use Prim.Native.Nat.{ℕ, _≤_}
+use Prim.Native.Nat.{ℕ}
 use native.Mathlib.Omega.{arith}
 use lib.ListN.{length}
 use Rattle.spec.specs.Records.{rulesIn}
@@ -21,10 +21,6 @@ use Rattle.lists.specs.declared.Listed.{Listed}
 use Rattle.lists.specs.declared.Listed.the-variants as listed
 
 module _ (n : ℕ) (maker depot sheet given : List ℕ) (after : Bool) (known : AcceptedSheet n maker depot sheet) where
-  -- the sheet can be loaded
-  pub call-fits : length sheet ≤ 256
-  call-fits = omega (arith, known .sheet-length, known .tables .boxes)
-
   -- the loaded sheet is ready for the search
   pub call-ready : (after ≡ true → length given ≡ n) → (cells : List ℕ) → Loaded sheet cells → Ready maker depot n cells given after
   call-ready size cells loaded =

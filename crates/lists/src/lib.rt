@@ -9,12 +9,14 @@ ghost use Rattle.lists.specs.Answer.{listedSays, handedNumbers, FirstDoe
 use accept::Form;
 use accept::check_next;
 use accept::check_order;
+use records::states::OPEN;
 use refusals::Numbers;
 use refusals::Refusal;
 use refusals::done;
 use refusals::of_refusal;
 use refusals::refused;
 use search::search;
+use sheet::Sheet;
 use sheet::load;
 use sheet::store;
 use tables::Tables;
@@ -62,7 +64,9 @@ fn choose_accepted<'a>(
     requires { ⌜ (after ≡ true → length (now given) ≡ n) ⌝ }
     ensures { λ r. ⌜ Chosen n (now (maker .entry)) (now (depot .entry)) (now (sheet .entry)) (now (given .entry)) after (now (out .entry)) r (now (out .exit)) ⌝ }
 {
-    let answer = search(maker, depot, n, load(sheet), given, after);
+    let mut loaded = [OPEN; 256];
+    load(sheet, &mut loaded);
+    let answer = search(maker, depot, n, Sheet { states: loaded }, given, after);
     if answer.found {
         let kit = answer.sheet;
         let states = kit.states;

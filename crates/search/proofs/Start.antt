@@ -1,6 +1,6 @@
 -- The search's start: the sheet filled to rest, as the first trial finds it.
 -- Assumes nothing.
-use mathlib.Core.Path.{_≡_, refl, subst, subst⁻¹, _∙_}
+use mathlib.Core.Path.{_≡_, subst, subst⁻¹, _∙_}
 use mathlib.Core.Logic.{inl}
 use mathlib.Core.Bool.{Bool, false}
 use mathlib.Core.List.{List}

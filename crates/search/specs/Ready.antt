@@ -11,7 +11,7 @@ use Rattle.spec.proofs.Accepted.{Accepted}
 use Rattle.spec.proofs.Named.{Good}
 use Rattle.kits.specs.Kit.{SettledBelow, OpenFrom}
 use Rattle.engine.specs.Moves.{Cells}
-use Rattle.engine.specs.Index.{Packed, Linked, packedRules}
+use Rattle.index.specs.Index.{Packed, Linked, packedRules}
 use Rattle.engine.specs.Queue.{Poised}
 use Rattle.search.specs.Look.{SameBelow}
 

@@ -4,16 +4,16 @@ mod look;
 
 ghost use mathlib.Core.Path.{_≡_};
 ghost use mathlib.Core.Bool.{false};
-ghost use lib.ListN.{take};
+ghost use lib.ListN.{length, set, take};
 ghost use Rattle.spec.specs.Records.{rulesIn};
 ghost use Rattle.kits.specs.Order.{AnswerTo};
 ghost use Rattle.kits.specs.Kit.{Wanted};
-ghost use Rattle.engine.specs.Index.{packedRules};
+ghost use Rattle.index.specs.Index.{packedRules};
 ghost use Rattle.search.specs.Ready.{Ready, TrialReady};
 use engine::go_on;
-use engine::index::link;
-use engine::index::pack;
 use engine::run_indexed;
+use index::link;
+use index::pack;
 use look::Standing;
 use look::is_bound;
 use look::is_past_out;
@@ -29,60 +29,62 @@ pub struct Found {
 }
 
 // No kit is found; what the sheet says is of no matter then.
-fn nothing(sheet: Sheet) -> Found
+fn nothing() -> Found
     ensures { λ r. ⌜ r .found ≡ false ⌝ }
 {
     Found {
         found: false,
-        sheet,
+        sheet: Sheet { states: [OUT; 256] },
     }
 }
 
-// The first kit of a sheet on which only box `from` is settled since every rule was at rest, and no box below it is open; if `after`
-// the first strictly after the given list, which has the same states below `from`.
+// The first kit of a sheet on which every rule was at rest, and no box below `from` is open, once `from` has this state; if `after`
+// the first strictly after the given list, which has the same states below `from`. The queue is the engine's, lent through.
 fn trial(
     packed: &[u8; 4096],
     m: usize,
     first: &[u16; 256],
     next: &[u16; 4096],
     n: usize,
-    sheet: Sheet,
+    sheet: [u8; 256],
     from: usize,
+    state: u8,
     given: &[u8],
     after: bool,
+    queue: &mut [u8; 256],
 ) -> Found
-    requires { ⌜ TrialReady (now packed) m (now first) (now next) n (sheet .states) from (now given) after ⌝ }
-    ensures { λ r. ⌜ AnswerTo (Wanted (packedRules (now (packed .entry)) m) n (sheet .states) after (now (given .entry)))
+    requires { ⌜ TrialReady (now packed) m (now first) (now next) n (set sheet from state) from (now given) after ⌝ }
+    requires { ⌜ length (now queue) ≡ 256 ⌝ }
+    ensures { λ r. ⌜ AnswerTo (Wanted (packedRules (now (packed .entry)) m) n (set sheet from state) after (now (given .entry)))
         (r .found) (take n (r .sheet .states)) ⌝ }
+    ensures { λ _. ⌜ length (now (queue .exit)) ≡ 256 ⌝ }
 {
-    let mut states = sheet.states;
-    if go_on(packed, m, first, next, from, &mut states) {
-        return nothing(sheet);
+    let here = Sheet { states: sheet };
+    let taken = here.settled(from, state);
+    let mut own = taken.states;
+    if go_on(packed, m, first, next, from, &mut own, queue) {
+        return nothing();
     }
-    let b = lowest_open(&states[..], from, n);
-    let standing = standing_to(&states[..], given, from, b, after);
+    let b = lowest_open(&own[..], from, n);
+    let standing = standing_to(&own[..], given, from, b, after);
     if let Standing::Before = standing {
-        return nothing(sheet);
+        return nothing();
     }
     let bound = is_bound(standing);
     if b == n {
         return Found {
             found: !bound,
-            sheet: Sheet { states },
+            sheet: Sheet { states: own },
         };
     }
     // a list with b out would stand before the given one
     if !is_past_out(given, b, bound) {
-        let here = Sheet { states };
-        let out_sheet = here.settled(b, OUT);
-        let answer = trial(packed, m, first, next, n, out_sheet, b, given, bound);
+        let answer = trial(packed, m, first, next, n, own, b, OUT, given, bound, queue);
         if answer.found {
             return answer;
         }
     }
-    let here = Sheet { states };
-    let in_sheet = here.settled(b, IN);
-    trial(packed, m, first, next, n, in_sheet, b, given, bound)
+    trial(packed, m, first, next, n, own, b, IN, given, bound, queue)
 }
 
 // The first kit of the sheet, and if `after` the first strictly after the given list.
@@ -105,8 +107,21 @@ pub fn search<'a>(
     link(&packed, m, &mut first, &mut next);
     let mut states = sheet.states;
     if run_indexed(maker, depot, &packed, m, &first, &next, &mut states) {
-        return nothing(sheet);
+        return nothing();
     }
-    let filled = Sheet { states };
-    trial(&packed, m, &first, &next, n, filled, 0, given, after)
+    let mut queue = [0; 256];
+    // box 0 keeps its state: nothing is chosen yet
+    trial(
+        &packed,
+        m,
+        &first,
+        &next,
+        n,
+        states,
+        0,
+        states[0],
+        given,
+        after,
+        &mut queue,
+    )
 }

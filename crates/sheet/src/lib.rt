@@ -1,7 +1,7 @@
-// The sheet by value: 256 states, those past the sheet's end open. A sheet with one more box settled is a new sheet.
+// The sheet as 256 states, those past the sheet's end open: lent, or by value. A sheet with one more box settled is a new sheet.
 ghost use mathlib.Core.Path.{_≡_};
 ghost use Prim.Native.Nat.{_≤_, _<_};
-ghost use lib.ListN.{length, set};
+ghost use lib.ListN.{length, replicate, set};
 ghost use Rattle.spec.specs.Fill.{boxesFilled, openCount};
 ghost use Rattle.theory.specs.Steps.{Loaded};
 use records::states::OPEN;
@@ -21,17 +21,17 @@ impl Sheet {
     }
 }
 
-pub fn load(sheet: &[u8]) -> Sheet
+// The sheet's states at the head of an array that is all open. The array is lent, so that a fill copies no sheet.
+pub fn load(sheet: &[u8], states: &mut [u8; 256])
     requires { ⌜ length (now sheet) ≤ 256 ⌝ }
-    ensures { λ r. ⌜ Loaded (now (sheet .entry)) (r .states) ⌝ }
+    requires { ⌜ now states ≡ replicate 256 2 ⌝ }
+    ensures { λ r. ⌜ Loaded (now (sheet .entry)) (now (states .exit)) ⌝ }
 {
-    let mut states = [OPEN; 256];
     let mut b = 0;
     while b < sheet.len() {
         states[b] = sheet[b];
         b += 1;
     }
-    Sheet { states }
 }
 
 pub fn store(filled: &[u8], out: &mut [u8])
@@ -45,27 +45,29 @@ pub fn store(filled: &[u8], out: &mut [u8])
     }
 }
 
-// The boxes that were open on the one sheet and are not on the other.
+// The boxes that were open on the one sheet and are not on the other. Counted in sixteen bits, and without a test in the loop, so that
+// many boxes are counted at a time.
 pub fn count_filled(sheet: &[u8], filled: &[u8]) -> usize
+    requires { ⌜ length (now sheet) ≤ 256 ⌝ }
     requires { ⌜ length (now sheet) ≡ length (now filled) ⌝ }
     ensures { λ r. ⌜ r ≡ boxesFilled (now (sheet .entry)) (now (filled .entry)) ⌝ }
 {
-    let mut n = 0;
+    let mut n: u16 = 0;
     let mut b = 0;
     while b < sheet.len() {
-        // as numbers: without a test in the loop, many boxes are counted at a time
         let was_open = if sheet[b] == OPEN { 1 } else { 0 };
         let is_settled = if filled[b] == OPEN { 0 } else { 1 };
         n += was_open * is_settled;
         b += 1;
     }
-    n
+    n as usize
 }
 
 pub fn count_open(sheet: &[u8]) -> usize
+    requires { ⌜ length (now sheet) ≤ 256 ⌝ }
     ensures { λ r. ⌜ r ≡ openCount (now (sheet .entry)) ⌝ }
 {
-    let mut n = 0;
+    let mut n: u16 = 0;
     let mut b = 0;
     while b < sheet.len() {
         if sheet[b] == OPEN {
@@ -73,5 +75,5 @@ pub fn count_open(sheet: &[u8]) -> usize
         }
         b += 1;
     }
-    n
+    n as usize
 }

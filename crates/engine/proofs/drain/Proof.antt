@@ -2,14 +2,14 @@
 -- Assumes nothing.
 use mathlib.Core.Path.{_≡_, subst, _∙_}
 use mathlib.Core.List.{List}
-use Prim.Native.Nat.{ℕ, _-_, _≤_, _<_}
+use Prim.Native.Nat.{ℕ, _-_, _≤_}
 use native.Mathlib.Omega.{arith}
 use borrow.Author.Needs.{needs}
 use lib.ListN.{getD}
 use Rattle.spec.specs.Records.{Rec}
 use Rattle.theory.specs.Steps.{Grown}
 use Rattle.theory.proofs.Growth.{grown-refl, grown-trans, grown-clash}
-use Rattle.engine.specs.Index.{packedRules}
+use Rattle.index.specs.Index.{packedRules}
 use Rattle.engine.specs.Queue.{Lent, AllWait, Visited}
 use Rattle.engine.specs.declared.step.Move.{Move}
 use Rattle.engine.specs.declared.step.Move.the-variants.{Noted, Clash}
@@ -91,8 +91,9 @@ visited c answer e =
 returns : tie.Need-returns Inv-loop μ-loop
 returns c =
     let visit = c .before .before in
-    let clash = visited visit Clash (c .enum-told .given .1) in
-    (clash .0, grown-clash (loopOf visit .loop .inv .2) (clash .1))
+    let lost = visited visit Clash (c .enum-told .given .1) in
+    let inv = loopOf visit .loop .inv in
+    ((lost .clash .0, grown-clash (inv .2) (lost .clash .1)), lost .size ∙ inv .1 .size)
 
 add-head : tie.Need-add-head Inv-loop μ-loop
 add-head c = omega (arith, loopOf (c .before .before .before) .loop .inv .1 .room)
@@ -112,7 +113,9 @@ loop-again c =
     )
 
 returns-2 : tie.Need-returns-2 Inv-loop μ-loop
-returns-2 c = (c .before .loop .inv .2, drain-end (c .before .loop .inv .3) (omega arith))
+returns-2 c =
+    let inv = c .before .loop .inv in
+    ((inv .2, drain-end (inv .3) (omega arith)), inv .1 .size)
 
 pub drain-spec : {M : Type 1} → statement M
 drain-spec =

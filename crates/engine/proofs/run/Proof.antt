@@ -6,27 +6,23 @@ use mathlib.Core.List.{List}
 use Prim.Native.Nat.{ℕ}
 use native.Mathlib.Omega.{arith}
 use borrow.Author.Needs.{needs}
-use lib.ListN.{replicate}
 use Rattle.spec.specs.Records.{Rec, rulesIn}
 use Rattle.engine.specs.Moves.{Rested}
 use Rattle.engine.specs.Queue.{Swept}
 use Rattle.engine.specs.declared.step.Move.{Move}
 use Rattle.engine.specs.declared.step.Move.the-variants.{Noted, Clash}
 use Rattle.engine.proofs.Running.{ran-rested}
-use Rattle.engine.proofs.Draining.{lent-empty, Sweeping, sweeping-first, sweeping-next, sweeping-rested, sweeping-end}
+use Rattle.engine.proofs.Draining.{zeros, lent-empty}
+use Rattle.engine.proofs.Sweeps.{Sweeps, sweeps-first, sweeps-next, sweeps-rested, sweeps-end}
 use Rattle.engine.proofs.run.Statement.{statement}
 use Rattle.engine.proofs.run.Tie as tie
 
 abbrev Inv-loop : tie.InvT-loop
 Inv-loop maker depot states₀ queue₀ start₀ end₀ left₀ back₀ states queue start end left back =
-    Sweeping (rulesIn maker depot) states₀ states queue start end
+    Sweeps (rulesIn maker depot) states₀ states queue start end
 
 abbrev μ-loop : tie.MeasureT-loop
 μ-loop maker depot states₀ queue₀ start₀ end₀ left₀ back₀ states queue start end left back = left
-
--- an empty queue
-abbrev zeros : List ℕ
-zeros = replicate 256 0
 
 -- the places of the code, from one back to an earlier one
 abbrev start : tie.After-sweep Inv-loop μ-loop → tie.Start Inv-loop μ-loop
@@ -67,7 +63,7 @@ next c answer e = subst (NextAs c) e (c .sweep2 .ensures)
 -- a rest, or a clash, after the sweeps so far is one of the states that the function began with
 ended : (c : tie.At-loop Inv-loop μ-loop) (u : List ℕ) (clash : Bool) → let began = start (swept c) in
     Rested (rules began) (c .loop .states) u clash → Rested (rules began) (began .args .states .now) u clash
-ended c u clash rested = ran-rested (first-noted c .ran) u clash (sweeping-rested (c .loop .inv) u clash rested)
+ended c u clash rested = ran-rested (first-noted c .ran) u clash (sweeps-rested (c .loop .inv) u clash rested)
 
 sweep-requires : tie.Need-sweep-requires Inv-loop μ-loop
 sweep-requires c κs =
@@ -93,7 +89,7 @@ loop-holds : tie.Need-loop-holds Inv-loop μ-loop
 loop-holds c =
     let noted = c .before .before .before in
     let sweep = noted .before .before in
-    sweeping-first (lent-empty {queue = zeros} (start sweep .pre .1) refl)
+    sweeps-first (lent-empty {queue = zeros} (start sweep .pre .1) refl)
     (first sweep (Noted (noted .first .given .0 .0)) (noted .first .given .1))
 
 run-queue-requires : tie.Need-run-queue-requires Inv-loop μ-loop
@@ -131,12 +127,12 @@ loop-less c = omega arith
 loop-again : tie.Need-loop-again Inv-loop μ-loop
 loop-again c =
     let sweep = c .before .before .before in
-    sweeping-next (loopOf sweep .loop .inv) (next sweep (Noted (c .before .answer .given .0 .0)) (c .before .answer .given .1))
+    sweeps-next (loopOf sweep .loop .inv) (next sweep (Noted (c .before .answer .given .0 .0)) (c .before .answer .given .1))
 
 returns-4 : tie.Need-returns-4 Inv-loop μ-loop
 returns-4 c =
     let at-loop = c .before in
-    ran-rested (first-noted at-loop .ran) (at-loop .loop .states) false (sweeping-end (at-loop .loop .inv) (omega arith))
+    ran-rested (first-noted at-loop .ran) (at-loop .loop .states) false (sweeps-end (at-loop .loop .inv) (omega arith))
 
 pub run-spec : {M : Type 1} → statement M
 run-spec =

@@ -5,21 +5,16 @@ use mathlib.Core.List.{List}
 use Prim.Native.Nat.{ℕ}
 use native.Mathlib.Omega.{arith}
 use borrow.Author.Needs.{needs}
-use lib.ListN.{replicate}
-use Rattle.spec.specs.Records.{Rec, rulesIn}
-use Rattle.engine.specs.Index.{packedRules}
+use Rattle.spec.specs.Records.{Rec}
+use Rattle.index.specs.Index.{packedRules}
 use Rattle.engine.specs.Queue.{Swept}
 use Rattle.engine.specs.declared.step.Move.{Move}
 use Rattle.engine.specs.declared.step.Move.the-variants.{Noted, Clash}
-use Rattle.engine.proofs.Packing.{packed-own}
+use Rattle.index.proofs.Packing.{packed-own}
 use Rattle.engine.proofs.Running.{ran-rested, lent-ran}
-use Rattle.engine.proofs.Draining.{lent-empty}
+use Rattle.engine.proofs.Draining.{zeros, lent-empty}
 use Rattle.engine.proofs.run_indexed.Statement.{statement}
 use Rattle.engine.proofs.run_indexed.Tie as tie
-
--- an empty queue
-abbrev zeros : List ℕ
-zeros = replicate 256 0
 
 -- where the function began, from where the sweep has answered; its packed rules and its states
 abbrev start : tie.After-sweep → tie.Start
@@ -74,7 +69,7 @@ returns-2 c =
     let known = c .before .before .before .before in
     let sweep = known .before .before in
     let gone = swept sweep (Noted (known .forth .given .0 .0)) (known .forth .given .1) in
-    ran-rested (gone .ran) _ (c .drain .result) (c .drain .ensures)
+    ran-rested (gone .ran) _ (c .drain .result) (c .drain .ensures .0)
 
 pub run-indexed-spec : {M : Type 1} → statement M
 run-indexed-spec =

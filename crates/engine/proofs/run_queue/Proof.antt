@@ -5,8 +5,8 @@ use mathlib.Core.List.{List}
 use Rattle.spec.specs.Records.{Rec}
 use Rattle.engine.specs.Moves.{Rested}
 use Rattle.engine.specs.Queue.{AllWait}
-use Rattle.engine.proofs.Packing.{packed-good, packed-own}
-use Rattle.engine.proofs.Linking.{linked-zeros}
+use Rattle.index.proofs.Packing.{packed-good, packed-own}
+use Rattle.index.proofs.Linking.{linked-zeros}
 use borrow.Author.Needs.{needs}
 use Rattle.engine.proofs.run_queue.Statement.{statement}
 use Rattle.engine.proofs.run_queue.Tie as tie
@@ -44,7 +44,7 @@ returns c =
     let packed = c .before .before .before .before .before .before .before .before .before .before in
     let began = packed .before .before .before .before in
     subst (λ (qs : List Rec). Rested qs (began .args .states .now) (c .drain .last .1 .1 .1 .1 .0) (c .drain .result)) (packed .pack .ensures .rules)
-    (c .drain .ensures)
+    (c .drain .ensures .0)
 
 pub run-queue-spec : {M : Type 1} → statement M
 run-queue-spec = tie.close (tie.spec pack-requires link-requires drain-requires returns)

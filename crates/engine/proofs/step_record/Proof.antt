@@ -9,11 +9,11 @@ use borrow.Author.Needs.{needs}
 use borrow.Author.Tests.{not-true, not-false}
 use Rattle.spec.specs.Records.{Rec, bad, isRule}
 use Rattle.records.specs.Record.{asRec}
-use Rattle.engine.specs.Index.{ruleOf}
+use Rattle.index.specs.Index.{ruleOf}
 use Rattle.engine.specs.Queue.{StepInput, Stepped, RecordStepped}
 use Rattle.engine.specs.declared.step.Move.{Move}
 use Rattle.engine.specs.declared.step.Move.the-variants.{Noted}
-use Rattle.engine.proofs.Rules.{rule-again}
+use Rattle.index.proofs.Rules.{rule-again}
 use Rattle.engine.proofs.OneRecord.{look-x, look-y, look-states, look-fired}
 use Rattle.engine.proofs.step_record.Statement.{statement}
 use Rattle.engine.proofs.step_record.Tie as tie
@@ -84,7 +84,7 @@ returns-2 c =
     (look-fired _ _ _ _ (input began) (small _) (c .before .at-rest .ensures (c .if2 .taken)))
 
 step-requires : tie.Need-step-requires
-step-requires c κs = input (c .before .before .before .before .before .before .before .before .before .before)
+step-requires c κs = (input (c .before .before .before .before .before .before .before .before .before .before), small _)
 
 returns-3 : tie.Need-returns-3
 returns-3 c =

@@ -6,7 +6,7 @@ use Prim.Native.Nat.{ℕ, _*_}
 use borrow.Author.Needs.{needs}
 use lib.ListN.{getD}
 use Rattle.spec.specs.Records.{Rec}
-use Rattle.engine.specs.Index.{ruleOf, ruleAt}
+use Rattle.index.specs.Index.{ruleOf, ruleAt}
 use Rattle.engine.specs.Queue.{StepInput, Stepped}
 use Rattle.engine.specs.declared.step.Move.{Move}
 use Rattle.engine.specs.declared.step.Move.the-variants.{Noted}
@@ -99,7 +99,9 @@ returns c =
     (look-fired _ _ _ _ (input known) (known .box-of3 .ensures .1) (c .before .at-rest .ensures (c .if1 .taken)))
 
 step-requires : tie.Need-step-requires
-step-requires c κs = input (c .before .before .before .before .before .before .before .before)
+step-requires c κs =
+    let known = c .before .before .before .before .before .before .before .before in
+    (input known, known .box-of3 .ensures .1)
 
 returns-2 : tie.Need-returns-2
 returns-2 c =

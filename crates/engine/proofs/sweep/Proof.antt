@@ -2,13 +2,12 @@
 -- Assumes nothing.
 use mathlib.Core.Path.{_≡_, subst}
 use mathlib.Core.Logic.{⊎-elim}
-use mathlib.Core.Bool.{Bool}
 use mathlib.Core.List.{List}
 use Prim.Native.Nat.{ℕ, _-_, _≤_, _<_}
 use native.Mathlib.Omega.{arith}
 use borrow.Author.Needs.{needs}
 use Rattle.spec.specs.Records.{Rec, isRule, recordAt, recordCount}
-use Rattle.engine.specs.Queue.{Lent, StepInput, RecordStepped}
+use Rattle.engine.specs.Queue.{Lent, RecordStepped}
 use Rattle.engine.specs.declared.step.Move.{Move}
 use Rattle.engine.specs.declared.step.Move.the-variants.{Noted, Clash}
 use Rattle.engine.proofs.Running.{lent-ran}

@@ -1,15 +1,14 @@
 -- `engine::visit` meets its contract: the rules along a box's chain have their step.
 -- Assumes nothing.
 use mathlib.Core.Path.{_≡_, subst}
-use mathlib.Core.List.{List}
-use Prim.Native.Nat.{ℕ, _/_, _<_}
+use Prim.Native.Nat.{_/_, _<_}
 use native.Mathlib.Omega.{arith}
 use borrow.Author.Needs.{needs}
-use Rattle.engine.specs.Index.{ruleAt, Top}
+use Rattle.index.specs.Index.{ruleAt, Top}
 use Rattle.engine.specs.Queue.{Lent, Stepped}
 use Rattle.engine.specs.declared.step.Move.{Move}
 use Rattle.engine.specs.declared.step.Move.the-variants.{Noted, Clash}
-use Rattle.engine.proofs.Linking.{held-member}
+use Rattle.index.proofs.Linking.{held-member}
 use Rattle.engine.proofs.Running.{lent-ran}
 use Rattle.engine.proofs.Visiting.{Above, top-below, visit-start, entry-held, rule-below, visit-clash, visit-step, visit-end}
 use Rattle.engine.proofs.visit.Statement.{statement}

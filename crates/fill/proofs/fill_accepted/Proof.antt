@@ -22,7 +22,7 @@ use Rattle.fill.proofs.fill_accepted.Tie as tie
 
 -- what the function was called with
 abbrev called : tie.After-load → tie.Start
-called c = c .before .before .before .before .before
+called c = c .before .before .before .before .before .before
 
 -- n is the sheet's length
 as-sheet : (start : tie.Start) →
@@ -34,28 +34,28 @@ as-sheet start =
 
 -- what the engine came to
 rested : (c : tie.After-run) (answer : Bool) → c .run .result ≡ answer →
-    let loaded = c .before .before .before in
+    let loaded = c .before .before in
     let a = called loaded .args in
-    Rested (rulesIn (a .maker .now) (a .depot .now)) (loaded .load .result .states) (c .run .last .1 .1 .0) answer
+    Rested (rulesIn (a .maker .now) (a .depot .now)) (loaded .load .last .1 .0) (c .run .last .1 .1 .0) answer
 rested c answer e =
-    let loaded = c .before .before .before in
+    let loaded = c .before .before in
     let a = called loaded .args in
-    subst (λ (r : Bool). Rested (rulesIn (a .maker .now) (a .depot .now)) (loaded .load .result .states) (c .run .last .1 .1 .0) r) e (c .run .ensures)
+    subst (λ (r : Bool). Rested (rulesIn (a .maker .now) (a .depot .now)) (loaded .load .last .1 .0) (c .run .last .1 .1 .0) r) e (c .run .ensures)
 
 -- at rest there are 256 states
-rest-size : (c : tie.Else1) → called (c .before .before .before .before) .args .n ≤ length (c .before .run .last .1 .1 .0)
+rest-size : (c : tie.Else1) → called (c .before .before .before) .args .n ≤ length (c .before .run .last .1 .1 .0)
 rest-size c =
-    let loaded = c .before .before .before .before in
+    let loaded = c .before .before .before in
     let start = called loaded in
     omega (arith, rested (c .before) false (c .if1 .left) .0 .size, loaded .load .ensures .size, start .pre .0 .tables .boxes)
 
 -- and the first of them are the closure
 rest-filled : (c : tie.Else1) →
-    let a = called (c .before .before .before .before) .args in
+    let a = called (c .before .before .before) .args in
     FillsTo (a .maker .now) (a .depot .now) (a .sheet .now) (take (a .n) (c .before .run .last .1 .1 .0))
 unfolding closureOf
 rest-filled c =
-    let loaded = c .before .before .before .before in
+    let loaded = c .before .before .before in
     let start = called loaded in
     let a = start .args in
     let known = as-sheet start in
@@ -70,11 +70,11 @@ rest-filled c =
     })
 
 load-requires : tie.Need-load-requires
-load-requires c κs = let start = c .before .before .before .before in omega (arith, start .pre .0 .sheet-length, start .pre .0 .tables .boxes)
+load-requires c κs = search needs
 
 run-requires : tie.Need-run-requires
 run-requires c κs =
-    let loaded = c .before .before in
+    let loaded = c .before in
     let start = called loaded in (
       accepted-all (start .pre .0 .tables),
       record { size = loaded .load .ensures .size; sheet = loaded-sheet (loaded .load .ensures) (start .pre .0 .sheet-bytes) },
@@ -82,7 +82,7 @@ run-requires c κs =
 
 returns : tie.Need-returns
 returns c =
-    let loaded = c .before .before .before .before in
+    let loaded = c .before .before .before in
     let start = called loaded in
     let clash = rested (c .before) true (c .if1 .taken) in
     does (start .args .maker .now) (start .args .depot .now) (start .args .sheet .now) (start .args .out .now) Clash
@@ -99,8 +99,14 @@ slice-aggregate-hand-out c = sym (length-take-le _ (c .before .before .run .last
 hand-out-requires : tie.Need-hand-out-requires
 hand-out-requires c κs =
     let rest = c .before .before in
-    let start = called (rest .before .before .before .before) in
-    (start .pre .0 .tables .whole, (rest-filled rest, start .pre .1 ∙ sym (start .pre .0 .sheet-length)))
+    let start = called (rest .before .before .before) in
+    let accepted = start .pre .0 in (
+      accepted .tables .whole,
+      (
+        omega (arith, accepted .sheet-length, accepted .tables .boxes),
+        (rest-filled rest, start .pre .1 ∙ sym (accepted .sheet-length)),
+      ),
+    )
 
 same-length : tie.Need-same-length
 same-length c = search needs

@@ -15,10 +15,10 @@ called c = c .before .before .before .before .before .before
 
 same-size : (start : tie.Start) → length (start .args .filled .now) ≡ length (start .args .sheet .now)
 same-size start =
-    filled-size (start .args .maker .now) (start .args .depot .now) (start .args .sheet .now) (start .args .filled .now) (start .pre .1 .0)
+    filled-size (start .args .maker .now) (start .args .depot .now) (start .args .sheet .now) (start .args .filled .now) (start .pre .1 .1 .0)
 
 count-open-requires : tie.Need-count-open-requires
-count-open-requires c κs = search needs
+count-open-requires c κs = let start = c .before .before .before .before .before in omega (arith, same-size start, start .pre .1 .0)
 
 first-broken-requires : tie.Need-first-broken-requires
 first-broken-requires c κs = search needs
@@ -31,15 +31,17 @@ returns c =
     let start = called (c .before .before .before .before) in
     let found = c .before .before .first-broken in
     handed-broken (start .args .maker .now) (start .args .depot .now) (start .args .sheet .now) (start .args .out .now) (start .args .filled .now)
-    (start .pre .1 .0) (found .result) (found .ensures)
+    (start .pre .1 .1 .0) (found .result) (found .ensures)
     (sym (c .before .before .before .before .count-open .ensures) ∙ c .before .before .before .if1 .taken)
     (omega (arith, c .before .count .ensures))
 
 store-requires : tie.Need-store-requires
-store-requires c κs = let start = called (c .before .before) in omega (arith, start .pre .1 .1, same-size start)
+store-requires c κs = let start = called (c .before .before) in omega (arith, start .pre .1 .1 .1, same-size start)
 
 count-filled-requires : tie.Need-count-filled-requires
-count-filled-requires c κs = let start = called (c .before .before .before .before .before) in omega (arith, same-size start)
+count-filled-requires c κs =
+    let start = called (c .before .before .before .before .before) in
+    (start .pre .1 .0, sym (same-size start))
 
 same-length : tie.Need-same-length
 same-length c = search needs
@@ -50,7 +52,7 @@ returns-2 c =
     let opened = stored .before .before .before in
     let start = called opened in
     handed-boxes (start .args .maker .now) (start .args .depot .now) (start .args .sheet .now) (start .args .out .now) (start .args .filled .now)
-    (start .pre .1 .0) (c .count-filled .result) (stored .store .last .1 .0)
+    (start .pre .1 .1 .0) (c .count-filled .result) (stored .store .last .1 .0)
     (λ full below.
     ⊎-elim
     (λ w. omega (arith, w .1 .ensures, w .2 .ensures, w .3 .left))

@@ -9,14 +9,14 @@ use lib.ListN.{length, take, length-take}
 use Rattle.spec.specs.Records.{rulesIn}
 use Rattle.kits.specs.Order.{AnswerTo}
 use Rattle.kits.specs.Kit.{Wanted}
-use Rattle.lists.proofs.Calls.{call-fits, call-ready, call-answer, found-size}
+use Rattle.lists.proofs.Calls.{call-ready, call-answer, found-size}
 use borrow.Author.Needs.{needs}
 use Rattle.lists.proofs.choose_accepted.Statement.{statement}
 use Rattle.lists.proofs.choose_accepted.Tie as tie
 
 -- what the function was called with
 abbrev called : tie.After-load → tie.Start
-called c = c .before .before .before .before .before .before
+called c = c .before .before .before .before .before .before .before
 
 -- the answer to what was asked
 abbrev Answers : tie.Start → Bool → List ℕ → Type 0
@@ -33,7 +33,7 @@ answer-found c =
     let start = called (c .before) in
     let a = start .args in
     call-answer (a .n) (a .maker .now) (a .depot .now) (a .sheet .now) (a .given .now) (a .after) (start .pre .0)
-    (loaded .result .states) (loaded .ensures) (c .search .result .found) (take (a .n) (c .search .result .sheet .states)) (c .search .ensures)
+    (loaded .last .1 .0) (loaded .ensures) (c .search .result .found) (take (a .n) (c .search .result .sheet .states)) (c .search .ensures)
 
 -- a kit that is found is of the sheet's length
 kit-size : (c : tie.Then1) →
@@ -41,22 +41,19 @@ kit-size : (c : tie.Then1) →
     length (take n (c .before .search .result .sheet .states)) ≡ n
 kit-size c =
     let a = called (c .before .before) .args in
-    found-size (a .maker .now) (a .depot .now) (c .before .before .load .result .states) (a .given .now) (a .after)
+    found-size (a .maker .now) (a .depot .now) (c .before .before .load .last .1 .0) (a .given .now) (a .after)
     (a .n) (c .before .search .result .found) (take (a .n) (c .before .search .result .sheet .states))
     (c .if1 .taken) (c .before .search .ensures)
 
 load-requires : tie.Need-load-requires
-load-requires c κs =
-    let start = c .before .before .before .before .before in
-    let a = start .args in
-    call-fits (a .n) (a .maker .now) (a .depot .now) (a .sheet .now) (a .given .now) (a .after) (start .pre .0)
+load-requires c κs = search needs
 
 search-requires : tie.Need-search-requires
 search-requires c κs =
     let start = called c in
     let a = start .args in
     call-ready (a .n) (a .maker .now) (a .depot .now) (a .sheet .now) (a .given .now) (a .after) (start .pre .0) (start .pre .1 .1)
-    (c .load .result .states) (c .load .ensures)
+    (c .load .last .1 .0) (c .load .ensures)
 
 array-share-prefix-states : tie.Need-array-share-prefix-states
 array-share-prefix-states c =

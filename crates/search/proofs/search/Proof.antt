@@ -1,19 +1,20 @@
 -- `search::search` meets its contract: the first trial starts from the sheet filled to rest.
 -- Assumes nothing.
 use borrow.Author.Needs.{needs}
-use mathlib.Core.Path.{refl, sym, subst}
+use mathlib.Core.Path.{_≡_, refl, sym, subst}
 use mathlib.Core.Bool.{Bool, false}
 use mathlib.Core.List.{List}
 use Prim.Native.Nat.{ℕ}
-use lib.ListN.{take}
+use lib.ListN.{getD, set, take}
+use lib.Seq.{set-getD}
 use Rattle.spec.specs.Records.{Rec, rulesIn}
 use Rattle.spec.proofs.Accepted.{accepted-all}
 use Rattle.kits.specs.Order.{Question}
 use Rattle.kits.specs.Kit.{Wanted}
 use Rattle.engine.specs.Moves.{Rested}
-use Rattle.engine.specs.Index.{packedRules}
-use Rattle.engine.proofs.Packing.{packed-good, packed-own}
-use Rattle.engine.proofs.Linking.{linked-zeros}
+use Rattle.index.specs.Index.{packedRules}
+use Rattle.index.proofs.Packing.{packed-good, packed-own}
+use Rattle.index.proofs.Linking.{linked-zeros}
 use Rattle.search.proofs.Trials.{with-found}
 use Rattle.search.proofs.Start.{start-clash, start-trial, start-answer}
 use Rattle.search.proofs.search.Statement.{statement}
@@ -75,23 +76,34 @@ returns c =
     (start-clash (s .pre) (packed (linked here) .pack .ensures .rules)
     (subst (RestedAs here) (c .before .if1 .taken) (here .run-indexed .ensures)) l)
 
+array-read-trial : tie.Need-array-read-trial
+array-read-trial c = search needs
+
+-- box 0 gets the state that it has
+same-states : (t : List ℕ) → set t 0 (getD t 0 0) ≡ t
+same-states t = set-getD t 0 0
+
 trial-requires : tie.Need-trial-requires
 trial-requires c κs =
-    let rest = c .before .before .before in
+    let rest = c .before .before .before .before in
     let index = linked (rest .before) in
     let pack = packed index .pack .ensures in
-    record {
-      rules = packed-own pack;
-      chains = index .link .ensures;
-      trial = start-trial (began (rest .before) .pre) (pack .rules) (rested rest);
-    }
+    rw (same-states (filled (rest .before))) (
+      record {
+        rules = packed-own pack;
+        chains = index .link .ensures;
+        trial = start-trial (began (rest .before) .pre) (pack .rules) (rested rest);
+      },
+      refl,
+    )
 
 returns-2 : tie.Need-returns-2
 returns-2 c =
-    let rest = c .before .before .before .before in
+    let rest = c .before .before .before .before .before in
     let s = began (rest .before) in
     start-answer (s .pre) (packed (linked (rest .before)) .pack .ensures .rules) (rested rest)
-    (c .trial .result .found) (take (s .args .n) (c .trial .result .sheet .states)) (c .trial .ensures)
+    (c .trial .result .found) (take (s .args .n) (c .trial .result .sheet .states))
+    (rw (same-states (filled (rest .before))) at (c .trial .ensures .0))
 
 pub search-spec : {M : Type 1} → statement M
 search-spec =
@@ -102,5 +114,6 @@ search-spec =
     run-indexed-requires
     nothing-requires
     returns
+    array-read-trial
     trial-requires
     returns-2)

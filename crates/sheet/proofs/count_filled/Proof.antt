@@ -92,6 +92,12 @@ loop-again c =
     let at-loop = loopOf both .loop in
     (search needs, omega (arith, added both, at-loop .inv .1, count-next filled (at-loop .b) (filled (at-loop .b)) refl))
 
+cast-result : tie.Need-cast-result Inv-loop μ-loop
+cast-result c =
+    let start = c .before .before in
+    let filled = isFilled (start .args .sheet .now) (start .args .filled .now) in
+    record { fits = omega (arith, start .pre .0, c .before .loop .inv .0, c .before .loop .inv .1, count-upto-below filled (c .before .loop .b)) }
+
 returns : tie.Need-returns Inv-loop μ-loop
 unfolding boxesFilled
 returns c = let e : c .before .loop .b ≡ length (c .before .before .args .sheet .now) = omega arith in rw e at (c .before .loop .inv .1)
@@ -110,4 +116,5 @@ count-filled-spec =
     add-b
     loop-less
     loop-again
+    cast-result
     returns)

@@ -50,6 +50,11 @@ loop-again c = let found = isOpen (c .before .before .before .before .args .shee
           (c .if1 .came),
     )
 
+cast-result : tie.Need-cast-result Inv-loop μ-loop
+cast-result c =
+    let start = c .before .before in
+    record { fits = omega (arith, start .pre, c .before .loop .inv .0, c .before .loop .inv .1, count-upto-below (isOpen (start .args .sheet .now)) (c .before .loop .b)) }
+
 returns : tie.Need-returns Inv-loop μ-loop
 unfolding openCount
 returns c =
@@ -69,4 +74,5 @@ count-open-spec =
     add-b
     loop-less
     loop-again
+    cast-result
     returns)

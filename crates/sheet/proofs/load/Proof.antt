@@ -17,13 +17,13 @@ abbrev μ-loop : tie.MeasureT-loop
 μ-loop sheet states₀ b₀ states b = length sheet - b
 
 loop-holds : tie.Need-loop-holds Inv-loop μ-loop
-loop-holds c = (search needs, copying-start)
+loop-holds c = (search needs, rw (c .pre .1) copying-start)
 
 shared-slice-read-states : tie.Need-shared-slice-read-states Inv-loop μ-loop
 shared-slice-read-states c = search needs
 
-array-write-states : tie.Need-array-write-states Inv-loop μ-loop
-array-write-states c = omega (arith, c .before .before .before .pre)
+element-write-states : tie.Need-element-write-states Inv-loop μ-loop
+element-write-states c = omega (arith, c .before .before .before .pre .0)
 
 add-b : tie.Need-add-b Inv-loop μ-loop
 add-b c = search needs
@@ -32,13 +32,13 @@ loop-less : tie.Need-loop-less Inv-loop μ-loop
 loop-less c = search needs
 
 loop-again : tie.Need-loop-again Inv-loop μ-loop
-loop-again c = (search needs, copying-next (c .before .before .loop .inv .1) (omega (arith, c .before .before .before .pre)))
+loop-again c = (search needs, copying-next (c .before .before .loop .inv .1) (omega (arith, c .before .before .before .pre .0)))
 
 returns : tie.Need-returns Inv-loop μ-loop
 returns c =
     let start = c .before .before in
     let e : c .before .loop .b ≡ length (start .args .sheet .now) = omega arith in
-    loaded-copy (start .args .sheet .now) (c .before .loop .states) (start .pre) (rw e at (c .before .loop .inv .1))
+    loaded-copy (start .args .sheet .now) (c .before .loop .states) (start .pre .0) (rw e at (c .before .loop .inv .1))
 
 pub load-spec : {M : Type 1} → statement M
 load-spec =
@@ -48,7 +48,7 @@ load-spec =
     μ-loop
     loop-holds
     shared-slice-read-states
-    array-write-states
+    element-write-states
     add-b
     loop-less
     loop-again

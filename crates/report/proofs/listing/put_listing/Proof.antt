@@ -2,10 +2,11 @@
 -- Assumes nothing.
 use mathlib.Core.Path.{_≡_, sym, ap, _∙_}
 use mathlib.Core.List.{List, [], _∷_}
-use Prim.Native.Nat.{ℕ}
+use Prim.Native.Nat.{ℕ, _≤_}
 use native.Mathlib.Omega.{arith}
+use lib.ListN.{length}
 use borrow.Author.Needs.{needs}
-use Rattle.spec.specs.Refusals.{refused, answered}
+use Rattle.spec.specs.Refusals.{refused, answered, passed, judge, sheetChecks}
 use Rattle.spec.specs.Kits.{kits}
 use Rattle.text.proofs.Rooms.{room-then, room-within, room-length}
 use Rattle.refusals.specs.Telling.{doneWith, refusalIn}
@@ -42,6 +43,20 @@ filled-said c =
     told-answered doneWith count-codes (numbers .numbers .result) (filledSays (fill-of numbers .fill .result)) (numbers .numbers .ensures) (c .if1 .left) in
     said .1 ∙ ap answered (sym (count-told (numbers .numbers .result) (said .0) (said .2)))
 
+-- so it has passed the checks, and the sheet has no more than 256 boxes
+passes : (c : tie.Else1) → let start = called (fill-of (c .before .before)) in
+    judge (sheetChecks (start .args .maker .now) (start .args .depot .now) (start .args .sheet .now)) passed ≡ passed
+passes c =
+    let asked = fill-of (c .before .before) in
+    let start = called asked in
+    filled-passed (start .args .maker .now) (start .args .depot .now) (start .args .sheet .now) (start .args .filled .now) (start .pre .0)
+    (asked .fill .result) (asked .fill .last .1 .1 .1 .0) (asked .fill .ensures) _ (filled-said c)
+
+few : (c : tie.Else1) → length (called (fill-of (c .before .before)) .args .sheet .now) ≤ 256
+few c =
+    let start = called (fill-of (c .before .before)) in
+    passed-boxes (start .args .maker .now) (start .args .depot .now) (start .args .sheet .now) (passes c)
+
 fill-requires : tie.Need-fill-requires
 fill-requires c κs = search needs
 
@@ -72,7 +87,10 @@ count-requires : tie.Need-count-requires
 count-requires c κs = search needs
 
 count-open-requires : tie.Need-count-open-requires
-count-open-requires c κs = search needs
+count-open-requires c κs =
+    let filled = c .before .before in
+    let start = called (fill-of (filled .before .before)) in
+    search (needs, few filled, start .pre .0 .size (few filled))
 
 put-header-requires : tie.Need-put-header-requires
 put-header-requires c κs = search needs
@@ -81,15 +99,10 @@ put-kits-requires : tie.Need-put-kits-requires
 put-kits-requires c κs =
     let header = c .before .before .before .before .before in
     let filled = header .before .before .before .before .before in
-    let asked = fill-of (filled .before .before) in
-    let start = called asked in
-    let passes =
-    filled-passed (start .args .maker .now) (start .args .depot .now) (start .args .sheet .now) (start .args .filled .now) (start .pre .0)
-    (asked .fill .result) (asked .fill .last .1 .1 .1 .0) (asked .fill .ensures) _ (filled-said filled) in
-    let few = passed-boxes (start .args .maker .now) (start .args .depot .now) (start .args .sheet .now) passes in
+    let start = called (fill-of (filled .before .before)) in
     let puts = header .put-header .ensures in (
-      record { passes = passes; size = start .pre .1 .1 .0 .size few },
-      (start .pre .1 .0 .size few, omega (arith, puts .short, room-length puts, start .pre .1 .1 .1)),
+      record { passes = passes filled; size = start .pre .1 .1 .0 .size (few filled) },
+      (start .pre .1 .0 .size (few filled), omega (arith, puts .short, room-length puts, start .pre .1 .1 .1)),
     )
 
 same-length-3 : tie.Need-same-length-3

@@ -15,8 +15,8 @@ use Rattle.spec.specs.Records.{Rec, recordAt, recordCount, isRule, rulesIn, bad
 use Rattle.spec.proofs.Named.{Good}
 use Rattle.spec.proofs.Accepted.{Accepted}
 use Rattle.theory.proofs.Numbered.{rules-good}
-use Rattle.engine.specs.Index.{ruleOf, ruleAt, packedRules, Packed}
-use Rattle.engine.proofs.Rules.{rule-again}
+use Rattle.index.specs.Index.{ruleOf, ruleAt, packedRules, Packed}
+use Rattle.index.proofs.Rules.{rule-again}
 
 upFrom-last : (k n : ℕ) → upFrom k (suc n) ≡ upFrom k n ++ ((k + n) ∷ [])
 upFrom-last k zero = rw add-zero

@@ -1,12 +1,12 @@
--- `engine::link` meets its contract: rule by rule, the entries of all rules are linked.
+-- `index::link` meets its contract: rule by rule, the entries of all rules are linked.
 -- Assumes nothing.
 use Prim.Native.Nat.{_*_, _-_, _≤_}
 use native.Mathlib.Omega.{arith}
 use borrow.Author.Needs.{needs}
-use Rattle.engine.specs.Index.{Linked}
-use Rattle.engine.proofs.Linking.{held-member, linked-to}
-use Rattle.engine.proofs.index.link.Statement.{statement}
-use Rattle.engine.proofs.index.link.Tie as tie
+use Rattle.index.specs.Index.{Linked}
+use Rattle.index.proofs.Linking.{held-member, linked-to}
+use Rattle.index.proofs.link.Statement.{statement}
+use Rattle.index.proofs.link.Tie as tie
 
 abbrev Inv-loop : tie.InvT-loop
 Inv-loop packed m first₀ next₀ j₀ first next j = (j ≤ m) × Linked packed (4 * j) first next

@@ -1,10 +1,10 @@
--- `engine::pack_rule` meets its contract: four bytes, of which the rule is read again.
+-- `index::pack_rule` meets its contract: four bytes, of which the rule is read again.
 -- Assumes nothing.
 use borrow.Author.Needs.{needs}
 use Rattle.records.specs.Record.{asRec}
-use Rattle.engine.proofs.Packing.{written-size, packed-next}
-use Rattle.engine.proofs.index.pack_rule.Statement.{statement}
-use Rattle.engine.proofs.index.pack_rule.Tie as tie
+use Rattle.index.proofs.Packing.{written-size, packed-next}
+use Rattle.index.proofs.pack_rule.Statement.{statement}
+use Rattle.index.proofs.pack_rule.Tie as tie
 
 mul-at : tie.Need-mul-at
 mul-at c = search needs

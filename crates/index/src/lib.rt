@@ -9,7 +9,7 @@ ghost use Rattle.spec.specs.Records.{rulesIn, bad};
 ghost use Rattle.spec.proofs.Accepted.{Accepted};
 ghost use Rattle.spec.proofs.Named.{Good};
 ghost use Rattle.records.specs.Record.{asRec};
-ghost use Rattle.engine.specs.Index.{ruleAt, packedRules, Packed, Linked, Held};
+ghost use Rattle.index.specs.Index.{ruleAt, packedRules, Packed, Linked, Held};
 use records::Record;
 use records::count;
 use records::is_rule;

@@ -10,7 +10,7 @@ use Rattle.lemmas.proofs.Tests.{or-false-left, or-false-right}
 use Rattle.spec.specs.Kinds.{kindOf}
 use Rattle.spec.specs.Records.{Rec, bad, boxesOf, noKind, lacksZ}
 use Rattle.theory.proofs.Places.{good-x, good-y, good-z}
-use Rattle.engine.specs.Index.{ruleOf}
+use Rattle.index.specs.Index.{ruleOf}
 
 module _ (q : Rec) (good : bad 256 q ≡ false) where
   byte-zero : q .byte1 ≡ 0

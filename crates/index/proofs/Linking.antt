@@ -21,7 +21,7 @@ use Rattle.spec.specs.SameRule.{samePlace}
 use Rattle.spec.proofs.SameRule.{same-place-refl}
 use Rattle.spec.proofs.EveryKind.{kind-all}
 use Rattle.theory.proofs.Places.{Names, named, named-names, good-kind}
-use Rattle.engine.specs.Index.{ruleOf, ruleAt, packedRules, entryOf, Held, Top, Linked}
+use Rattle.index.specs.Index.{ruleOf, ruleAt, packedRules, entryOf, Held, Top, Linked}
 
 -- a computed test of a kind: where it names z, it does not lack it
 zThere : Kind → Bool
@@ -69,9 +69,6 @@ number-below j m Z l = omega arith
 module _ {packed : List ℕ} {b e : ℕ} where
   pub held-number : (h : Held packed b e) → h .number ≡ e / 4
   held-number h = rw (h .is) (entry-number (h .number) (h .place))
-
-  pub held-below : {m : ℕ} (h : Held packed b e) → h .number < m → e < 4 * m
-  held-below {m} h l = rw (h .is) (entry-below (h .number) m (h .place) l)
 
   pub below-held : {m : ℕ} (h : Held packed b e) → e < 4 * m → h .number < m
   below-held {m} h l = number-below (h .number) m (h .place) (rw (h .is) at l)

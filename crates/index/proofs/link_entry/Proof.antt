@@ -1,10 +1,10 @@
--- `engine::link_entry` meets its contract: the entry is the highest of its box, and what was highest comes next.
+-- `index::link_entry` meets its contract: the entry is the highest of its box, and what was highest comes next.
 -- Assumes nothing.
 use borrow.Author.Needs.{needs}
-use Rattle.engine.specs.Index.{Held}
-use Rattle.engine.proofs.Linking.{linked-entry}
-use Rattle.engine.proofs.index.link_entry.Statement.{statement}
-use Rattle.engine.proofs.index.link_entry.Tie as tie
+use Rattle.index.specs.Index.{Held}
+use Rattle.index.proofs.Linking.{linked-entry}
+use Rattle.index.proofs.link_entry.Statement.{statement}
+use Rattle.index.proofs.link_entry.Tie as tie
 
 element-copy-out-box-of : tie.Need-element-copy-out-box-of
 element-copy-out-box-of c = search needs

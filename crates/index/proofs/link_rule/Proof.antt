@@ -1,4 +1,4 @@
--- `engine::link_rule` meets its contract: the kind is passed over, and so is a z that is missing.
+-- `index::link_rule` meets its contract: the kind is passed over, and so is a z that is missing.
 -- Assumes nothing.
 use mathlib.Core.Path.{sym, _∙_}
 use Prim.Native.Nat.{_+_, _*_}
@@ -7,9 +7,9 @@ use borrow.Author.Needs.{needs}
 use borrow.Author.Tests.{not-false}
 use Rattle.lemmas.proofs.Tests.{T-true}
 use Rattle.spec.specs.Kinds.{X, Y, Z}
-use Rattle.engine.proofs.Linking.{kind-held, z-held, rule-held, linked-past, linked-to}
-use Rattle.engine.proofs.index.link_rule.Statement.{statement}
-use Rattle.engine.proofs.index.link_rule.Tie as tie
+use Rattle.index.proofs.Linking.{kind-held, z-held, rule-held, linked-past, linked-to}
+use Rattle.index.proofs.link_rule.Statement.{statement}
+use Rattle.index.proofs.link_rule.Tie as tie
 
 mul-at : tie.Need-mul-at
 mul-at c = search needs

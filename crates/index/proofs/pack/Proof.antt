@@ -1,4 +1,4 @@
--- `engine::pack` meets its contract: what is packed are the rules among the records so far.
+-- `index::pack` meets its contract: what is packed are the rules among the records so far.
 -- Assumes nothing.
 use mathlib.Core.Path.{_≡_, refl, sym, ap, _∙_}
 use mathlib.Core.Logic.{⊎-elim}
@@ -7,10 +7,10 @@ use native.Mathlib.Omega.{arith}
 use borrow.Author.Needs.{needs}
 use lib.ListN.{length}
 use Rattle.spec.specs.Records.{isRule}
-use Rattle.engine.specs.Index.{packedRules}
-use Rattle.engine.proofs.Packing.{rulesBelow, rules-kept, rules-passed, packed-all}
-use Rattle.engine.proofs.index.pack.Statement.{statement}
-use Rattle.engine.proofs.index.pack.Tie as tie
+use Rattle.index.specs.Index.{packedRules}
+use Rattle.index.proofs.Packing.{rulesBelow, rules-kept, rules-passed, packed-all}
+use Rattle.index.proofs.pack.Statement.{statement}
+use Rattle.index.proofs.pack.Tie as tie
 
 abbrev Inv-loop : tie.InvT-loop
 Inv-loop maker depot packed₀ all m₀ i₀ packed m i =
