@@ -17,7 +17,7 @@ use Rattle.theory.proofs.Places.{Names, named, named-names, good-kind, good-apa
 use Rattle.theory.proofs.Storing.{store-still}
 use Rattle.theory.proofs.Stepping.{RecordFires, sheet-three, states-sheet, new-read, new-keeps, new-sound, step-grown, step-stable}
 use Rattle.theory.proofs.Measure.{grown-kept}
-use Rattle.fire.specs.States.{three, OnSheet, closedAlone, Rests}
+use Rattle.fire.specs.States.{three, OnSheet, closedAlone, counted, Rests}
 use Rattle.engine.specs.Moves.{Cells}
 use Rattle.index.specs.Index.{ruleOf}
 use Rattle.engine.specs.Queue.{Queued, Settling, StepInput, Fired}
@@ -35,7 +35,7 @@ rule-z kind x y z there = rw there
 
 -- the state that is read for it
 pub rule-state-z : (kind x y z : ℕ) {s : List ℕ} → Cells s → z < 256 →
-    stateZ (ruleOf kind x y z) s ≡ cond (lacksZ (kindOf kind)) 2 (getD s z 0)
+    stateZ (ruleOf kind x y z) s ≡ counted kind (getD s z 0)
 unfolding stateZ ruleOf
 rule-state-z kind x y z {s} cells below = at (lacksZ (kindOf kind))
   where

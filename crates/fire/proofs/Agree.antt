@@ -23,7 +23,7 @@ abbrev pub everywhere : {A : Type 0} → ((x y z : ℕ) → A) → List (List (L
 everywhere f = atStates (λ x. atStates (λ y. atStates (f x y)))
 
 -- two functions with the same list of all they give are the same at each state
-pub everywhere-same : {A : Type 0} (f g : (x y z : ℕ) → A) → everywhere f ≡ everywhere g → {x y z : ℕ} → OnSheet x y z → f x y z ≡ g x y z
+everywhere-same : {A : Type 0} (f g : (x y z : ℕ) → A) → everywhere f ≡ everywhere g → {x y z : ℕ} → OnSheet x y z → f x y z ≡ g x y z
 everywhere-same f g e {x} {y} {z} s =
     let at-x = table-agree (λ a. atStates (λ b. atStates (f a b))) (λ a. atStates (λ b. atStates (g a b))) 3 e x (omega arith) in
     let at-y = table-agree (λ b. atStates (f x b)) (λ b. atStates (g x b)) 3 at-x y (omega arith) in
@@ -34,7 +34,7 @@ abbrev pub above : ℕ → ℕ
 above k = suc (suc (suc (suc (suc k))))
 
 -- two functions that are the same at the kinds' numbers, at 0, and above, are the same at each number
-pub numbers-same : {A : Type 0} (f g : ℕ → A) → map f (upto 5) ≡ map g (upto 5) → ((k : ℕ) → f (above k) ≡ g (above k)) →
+numbers-same : {A : Type 0} (f g : ℕ → A) → map f (upto 5) ≡ map g (upto 5) → ((k : ℕ) → f (above k) ≡ g (above k)) →
     (kind : ℕ) → f kind ≡ g kind
 numbers-same {A} f g below past kind = at (decLt kind 5)
   where
@@ -42,17 +42,25 @@ numbers-same {A} f g below past kind = at (decLt kind 5)
     at (yes l) = table-agree f g 5 below kind l
     at (no l) = subst⁻¹ (λ (k : ℕ). f k ≡ g k) (omega arith) (past (kind - 5))
 
--- the computed test: the kinds' numbers, and 0, which is none
-kinds-agree : map (λ kind. everywhere (tree kind)) (upto 5) ≡ map (λ kind. everywhere (closedAlone kind)) (upto 5)
+-- so a test over the kinds and all states of a sheet, which computes, is enough; above the kinds the number need not be known to compute
+abbrev pub AtKinds : {A : Type 0} → ((kind x y z : ℕ) → A) → List (List (List (List A)))
+AtKinds f = map (λ kind. everywhere (f kind)) (upto 5)
+
+abbrev pub SameAbove : {A : Type 0} → (f g : (kind x y z : ℕ) → A) → Type 0
+SameAbove f g = (k : ℕ) → everywhere (f (above k)) ≡ everywhere (g (above k))
+
+pub kinds-same : {A : Type 0} (f g : (kind x y z : ℕ) → A) → AtKinds f ≡ AtKinds g → SameAbove f g →
+    (kind : ℕ) {x y z : ℕ} → OnSheet x y z → f kind x y z ≡ g kind x y z
+kinds-same f g below past kind =
+    everywhere-same (f kind) (g kind) (numbers-same (λ k. everywhere (f k)) (λ k. everywhere (g k)) below past kind)
+
+kinds-agree : AtKinds tree ≡ AtKinds closedAlone
 unfolding kindOf rulesOf boxAt holds has names gives follows code round closed
 kinds-agree = refl
 
--- the same test at a number above them, which need not be known to compute
-above-agree : (k : ℕ) → everywhere (tree (above k)) ≡ everywhere (closedAlone (above k))
+above-agree : SameAbove tree closedAlone
 unfolding kindOf rulesOf boxAt holds has names gives follows code round closed
 above-agree k = refl
 
 pub tree-closed : (kind : ℕ) {x y z : ℕ} → OnSheet x y z → tree kind x y z ≡ closedAlone kind x y z
-tree-closed kind =
-    everywhere-same (tree kind) (closedAlone kind)
-    (numbers-same (λ k. everywhere (tree k)) (λ k. everywhere (closedAlone k)) kinds-agree above-agree kind)
+tree-closed = kinds-same tree closedAlone kinds-agree above-agree

@@ -3,23 +3,18 @@
 -- Assumes nothing.
 use mathlib.Core.Path.{_≡_, refl, ap, _∙_}
 use mathlib.Core.Bool.{Bool, true, false, cond}
-use mathlib.Core.List.{List, map}
+use mathlib.Core.List.{List}
 use Prim.Native.Nat.{ℕ, _≤_}
 use native.Mathlib.Omega.{arith}
 use lib.Dec.{eqb}
 use lib.ListN.{getD}
-use Rattle.lemmas.specs.Lists.{upto}
 use Rattle.spec.specs.Kinds.{kindOf}
 use Rattle.spec.specs.Rules.{rulesOf}
 use Rattle.spec.specs.Records.{boxAt, lacksZ}
 use Rattle.spec.specs.Facts.{holds}
 use Rattle.spec.specs.Rounds.{has, names, gives, follows, code, round, closed}
-use Rattle.fire.specs.States.{three, OnSheet, closedAlone}
-use Rattle.fire.proofs.Agree.{everywhere, everywhere-same, above, numbers-same}
-
--- the state of z that counts: a z that the kind has not is open
-abbrev pub counted : (kind z : ℕ) → ℕ
-counted kind z = cond (lacksZ (kindOf kind)) 2 z
+use Rattle.fire.specs.States.{three, OnSheet, closedAlone, counted}
+use Rattle.fire.proofs.Agree.{AtKinds, SameAbove, kinds-same}
 
 pub counted-sheet : (kind : ℕ) {x y z : ℕ} → OnSheet x y z → OnSheet x y (counted kind z)
 counted-sheet kind {z = z} sheet =
@@ -39,21 +34,17 @@ zDropped kind x y z = countedIn kind (closedAlone kind x y z)
 abbrev zOpen : (kind x y z : ℕ) → List ℕ
 zOpen kind x y z = closedAlone kind x y (counted kind z)
 
-kinds-drop : map (λ kind. everywhere (zDropped kind)) (upto 5) ≡ map (λ kind. everywhere (zOpen kind)) (upto 5)
+kinds-drop : AtKinds zDropped ≡ AtKinds zOpen
 unfolding kindOf lacksZ rulesOf boxAt holds has names gives follows code round closed
 kinds-drop = refl
 
-above-drop : (k : ℕ) → everywhere (zDropped (above k)) ≡ everywhere (zOpen (above k))
+above-drop : SameAbove zDropped zOpen
 unfolding kindOf lacksZ rulesOf boxAt holds has names gives follows code round closed
 above-drop k = refl
 
 pub z-dropped : (kind : ℕ) {x y z x′ y′ z′ : ℕ} → OnSheet x y z → three x′ y′ z′ ≡ closedAlone kind x y z →
     three x′ y′ (counted kind z′) ≡ closedAlone kind x y (counted kind z)
-z-dropped kind sheet e =
-    ap (countedIn kind) e
-    ∙ everywhere-same (zDropped kind) (zOpen kind)
-    (numbers-same (λ k. everywhere (zDropped k)) (λ k. everywhere (zOpen k)) kinds-drop above-drop kind)
-    sheet
+z-dropped kind sheet e = ap (countedIn kind) e ∙ kinds-same zDropped zOpen kinds-drop above-drop kind sheet
 
 -- x where y is both facts, and where z is; else both facts
 abbrev firstOf : List ℕ → List ℕ
@@ -62,14 +53,14 @@ firstOf l = three 3 (cond (eqb (getD l 1 2) 3) (getD l 0 2) 3) (cond (eqb (getD 
 abbrev firstAt : (kind x y z : ℕ) → List ℕ
 firstAt kind x y z = firstOf (closedAlone kind x y z)
 
-abbrev allBoth : (x y z : ℕ) → List ℕ
-allBoth x y z = three 3 3 3
+abbrev allBoth : (kind x y z : ℕ) → List ℕ
+allBoth kind x y z = three 3 3 3
 
-kinds-clash : map (λ kind. everywhere (firstAt kind)) (upto 5) ≡ map (λ (kind : ℕ). everywhere allBoth) (upto 5)
+kinds-clash : AtKinds firstAt ≡ AtKinds allBoth
 unfolding kindOf lacksZ rulesOf boxAt holds has names gives follows code round closed
 kinds-clash = refl
 
-above-clash : (k : ℕ) → everywhere (firstAt (above k)) ≡ everywhere allBoth
+above-clash : SameAbove firstAt allBoth
 unfolding kindOf lacksZ rulesOf boxAt holds has names gives follows code round closed
 above-clash k = refl
 
@@ -79,11 +70,7 @@ pub clash-at-x : (kind : ℕ) {x y z x′ y′ z′ : ℕ} → OnSheet x y z →
 clash-at-x kind {x} {y} {z} {x′} {y′} {z′} sheet e = (λ at. rw at at where-y, λ at. rw at at where-z)
   where
     all : firstOf (three x′ y′ z′) ≡ three 3 3 3
-    all =
-        ap firstOf e
-        ∙ everywhere-same (firstAt kind) allBoth
-        (numbers-same (λ k. everywhere (firstAt k)) (λ (k : ℕ). everywhere allBoth) kinds-clash above-clash kind)
-        sheet
+    all = ap firstOf e ∙ kinds-same firstAt allBoth kinds-clash above-clash kind sheet
 
     where-y : cond (eqb y′ 3) x′ 3 ≡ 3
     where-y = ap (λ (l : List ℕ). getD l 1 2) all

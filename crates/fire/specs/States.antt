@@ -34,11 +34,13 @@ pub record Fired (kind x y z : ℕ) (r : States) : Type 0 where
   pub y-code : r .y ≤ 3
   pub z-code : r .z ≤ 3
 
--- nothing follows from the three states under a record of this kind alone; where it has no z, that is taken as open
+-- the state of z that counts: where the kind has no z it is open
+abbrev pub counted : (kind z : ℕ) → ℕ
+counted kind z = cond (lacksZ (kindOf kind)) 2 z
+
+-- nothing follows from the three states under a record of this kind alone
 abbrev pub Rests : (kind x y z : ℕ) → Type 0
-Rests kind x y z =
-    let z′ = cond (lacksZ (kindOf kind)) 2 z in
-    closedAlone kind x y z′ ≡ three x y z′
+Rests kind x y z = closedAlone kind x y (counted kind z) ≡ three x y (counted kind z)
 
 -- by the kind's number: bit 16x + 4y + z is 1 where something follows
 abbrev pub stirsAt : ℕ → ℕ

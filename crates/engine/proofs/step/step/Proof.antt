@@ -10,8 +10,8 @@ use lib.ListN.{getD}
 use Rattle.spec.specs.Records.{Rec}
 use Rattle.theory.specs.Steps.{IsSheet, zMissing}
 use Rattle.theory.proofs.Stepping.{new-sheet, step-clash}
-use Rattle.fire.specs.States.{three}
-use Rattle.fire.proofs.Closures.{counted, counted-sheet, z-dropped, clash-at-x}
+use Rattle.fire.specs.States.{three, counted}
+use Rattle.fire.proofs.Closures.{counted-sheet, z-dropped, clash-at-x}
 use Rattle.index.specs.Index.{ruleOf}
 use Rattle.engine.proofs.OneRecord.{Fires, rule-z, rule-state-z, look-x, look-y, look-states}
 use Rattle.engine.proofs.OneRecord.{fires-read, settling-x, settling-y, settling-z, pair-fired, triple-fired}
