@@ -1,4 +1,4 @@
--- `engine::drain` meets its contract: the boxes of the queue are taken until every rule is at rest.
+-- `engine::queue::drain` meets its contract: the boxes of the queue are taken until every rule is at rest.
 -- Assumes nothing.
 use mathlib.Core.Path.{_≡_, subst, _∙_}
 use mathlib.Core.List.{List}
@@ -15,8 +15,8 @@ use Rattle.engine.specs.declared.step.Move.{Move}
 use Rattle.engine.specs.declared.step.Move.the-variants.{Noted, Clash}
 use Rattle.engine.proofs.Running.{lent-ran}
 use Rattle.engine.proofs.Draining.{chained, drain-step, drain-end}
-use Rattle.engine.proofs.drain.Statement.{statement}
-use Rattle.engine.proofs.drain.Tie as tie
+use Rattle.engine.proofs.queue.drain.Statement.{statement}
+use Rattle.engine.proofs.queue.drain.Tie as tie
 
 abbrev Inv-loop : tie.InvT-loop
 Inv-loop packed m first next states₀ queue₀ from to head₀ tail₀ states queue head tail =

@@ -1,4 +1,4 @@
--- `engine::visit` meets its contract: the rules along a box's chain have their step.
+-- `engine::queue::visit` meets its contract: the rules along a box's chain have their step.
 -- Assumes nothing.
 use mathlib.Core.Path.{_≡_, subst}
 use Prim.Native.Nat.{_/_, _<_}
@@ -11,8 +11,8 @@ use Rattle.engine.specs.declared.step.Move.the-variants.{Noted, Clash}
 use Rattle.index.proofs.Linking.{held-member}
 use Rattle.engine.proofs.Running.{lent-ran}
 use Rattle.engine.proofs.Visiting.{Above, top-below, visit-start, entry-held, rule-below, visit-clash, visit-step, visit-end}
-use Rattle.engine.proofs.visit.Statement.{statement}
-use Rattle.engine.proofs.visit.Tie as tie
+use Rattle.engine.proofs.queue.visit.Statement.{statement}
+use Rattle.engine.proofs.queue.visit.Tie as tie
 
 abbrev Inv-loop : tie.InvT-loop
 Inv-loop packed m next b head states₀ queue₀ start tail₀ e₀ states queue tail e =

@@ -1,4 +1,4 @@
--- `engine::step_record` meets its contract: nothing, where a look tells that the rule is at rest, and else its step.
+-- `engine::sweep::step_record` meets its contract: nothing, where a look tells that the rule is at rest, and else its step.
 -- Assumes nothing.
 use mathlib.Core.Path.{_≡_, refl, sym, subst, subst⁻¹, _∙_}
 use mathlib.Core.Bool.{Bool, true, false}
@@ -15,8 +15,8 @@ use Rattle.engine.specs.declared.step.Move.{Move}
 use Rattle.engine.specs.declared.step.Move.the-variants.{Noted}
 use Rattle.index.proofs.Rules.{rule-again}
 use Rattle.engine.proofs.OneRecord.{look-x, look-y, look-states, look-fired}
-use Rattle.engine.proofs.step_record.Statement.{statement}
-use Rattle.engine.proofs.step_record.Tie as tie
+use Rattle.engine.proofs.sweep.step_record.Statement.{statement}
+use Rattle.engine.proofs.sweep.step_record.Tie as tie
 
 -- the rule that is read from a record
 abbrev asRule : Rec → Rec

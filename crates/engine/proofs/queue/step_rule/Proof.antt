@@ -1,4 +1,4 @@
--- `engine::step_rule` meets its contract: the rule's bytes are read, a look tells whether it is at rest, and else it has its step.
+-- `engine::queue::step_rule` meets its contract: the rule's bytes are read, a look tells whether it is at rest, and else it has its step.
 -- Assumes nothing.
 use mathlib.Core.Path.{_≡_, subst, subst⁻¹}
 use mathlib.Core.List.{List}
@@ -11,8 +11,8 @@ use Rattle.engine.specs.Queue.{StepInput, Stepped}
 use Rattle.engine.specs.declared.step.Move.{Move}
 use Rattle.engine.specs.declared.step.Move.the-variants.{Noted}
 use Rattle.engine.proofs.OneRecord.{look-states, look-fired}
-use Rattle.engine.proofs.step_rule.Statement.{statement}
-use Rattle.engine.proofs.step_rule.Tie as tie
+use Rattle.engine.proofs.queue.step_rule.Statement.{statement}
+use Rattle.engine.proofs.queue.step_rule.Tie as tie
 
 mul-at : tie.Need-mul-at
 mul-at c = search needs

@@ -1,4 +1,4 @@
--- `engine::sweep` meets its contract: every record has its step, on the states and the queue that the ones before have left.
+-- `engine::sweep::sweep` meets its contract: every record has its step, on the states and the queue that the ones before have left.
 -- Assumes nothing.
 use mathlib.Core.Path.{_≡_, subst}
 use mathlib.Core.Logic.{⊎-elim}
@@ -12,8 +12,8 @@ use Rattle.engine.specs.declared.step.Move.{Move}
 use Rattle.engine.specs.declared.step.Move.the-variants.{Noted, Clash}
 use Rattle.engine.proofs.Running.{lent-ran}
 use Rattle.engine.proofs.Sweeping.{SoFar, IsNext, next-forth, next-back, sweep-start, sweep-step, sweep-clash, sweep-end}
-use Rattle.engine.proofs.sweep.Statement.{statement}
-use Rattle.engine.proofs.sweep.Tie as tie
+use Rattle.engine.proofs.sweep.sweep.Statement.{statement}
+use Rattle.engine.proofs.sweep.sweep.Tie as tie
 
 abbrev Inv-loop : tie.InvT-loop
 Inv-loop maker depot back states₀ queue₀ start all tail₀ i₀ states queue tail i =
