@@ -58,8 +58,8 @@ module _ {A : Type 0} where
         )
 
     -- as many of the wider test's: then they are the narrower's
-    pub count_back : {l : List A} → ((a : A) → Memᴰ a l → T (p a) → T (q a)) → count q l ≤ count p l →
-        {a : A} → Memᴰ a l → T (q a) → T (p a)
+    pub count_back : {a : A} {l : List A} → ((c : A) → Memᴰ c l → T (p c) → T (q c)) → count q l ≤ count p l →
+        Memᴰ a l → T (q a) → T (p a)
     count_back h e (Memᴰ.head {x = x} {xs = xs} same) t =
         rw same
         (bit_back (p x) (q x)

@@ -1,5 +1,6 @@
 // The listing program: reads the two tables and the order's sheet from the current directory, and writes their listing. What is
 // written is decided by `report::listing`; here is only what reads and writes.
+#![tactic(auto)]
 ghost use Rattle.std.specs.Prelude.{◌≡◌, length};
 ghost use Rattle.io.specs.Counts.{IsPrefixLen};
 

@@ -1,4 +1,5 @@
 // The public operations First and Next.
+#![tactic(auto)]
 ghost use Rattle.std.specs.Prelude.{◌≡◌, true, length};
 ghost use Rattle.spec.specs.Refusals.{is_answered};
 ghost use Rattle.spec.proofs.Accepted.{AcceptedSheet};

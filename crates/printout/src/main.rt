@@ -1,4 +1,5 @@
 // Prints the one-rule table: its entries in order, one decimal number a line.
+#![tactic(auto)]
 ghost use Rattle.std.specs.Prelude.{◌≡◌, ◌+◌, ◌≤◌, ◌<◌, length, take};
 ghost use Rattle.io.specs.Counts.{IsPrefixLen};
 ghost use Rattle.spec.specs.OneRule.{outcome};

@@ -1,5 +1,6 @@
 // The probe: reads calls from standard input, one a line, and writes an answer a line. What is written is decided by `stream`;
 // here is only what reads and writes.
+#![tactic(auto)]
 ghost use Rattle.std.specs.Prelude.{◌≡◌, ◌≤◌, length};
 ghost use Rattle.stream.specs.Input.{RoomForLines};
 

@@ -1,1 +1,2 @@
 // The build specification as definitions (specs/) and what holds of them (proofs/). No code.
+#![tactic(auto)]

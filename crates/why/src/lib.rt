@@ -1,4 +1,5 @@
 // Why-lists: our list of reasons for what Fill settles, and the check of anyone's.
+#![tactic(auto)]
 mod check;
 mod given;
 mod lines;

@@ -1,1 +1,2 @@
 // Why-lists: definitions and laws alone.
+#![tactic(auto)]
