@@ -1,5 +1,6 @@
 // The one-rule table: what the rules of one kind make of the states of a record's three boxes.
 #![tactic(auto)]
+
 mod entries;
 
 ghost use Rattle.std.specs.Prelude.{◌≡◌, map, ◌<◌};

@@ -1,5 +1,6 @@
 // A rule record: where it lies in the two tables, its eight bytes read by value, whether it is bad, and whether it is a rule.
 #![tactic(auto)]
+
 pub mod kinds;
 pub mod states;
 

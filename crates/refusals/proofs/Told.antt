@@ -1,9 +1,8 @@
 -- What the numbers tell of an answer, whatever the operation's own kind; and that they lose nothing.
 -- Assumes nothing.
 use mathlib.Core.Path.{◌≡◌, refl, sym, ◌∙◌, ap}
-use mathlib.Core.List.{List, []}
+use mathlib.Core.List.{List}
 use Prim.Native.Nat.{ℕ}
-use native.Mathlib.Omega.{arith}
 use lib.ListN.{get_or}
 use Rattle.spec.specs.Refusals.{Refusal, Said, refused, answered}
 use Rattle.refusals.specs.declared.Numbers.{Numbers}

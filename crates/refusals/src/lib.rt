@@ -2,6 +2,7 @@
 // enums. The first number is 0 where the operation has done what it was asked, 1 where it is refused and 2 where a record is broken.
 // The other two are the values: a refusal's number and place, the broken record, a count; and 0 where there is none.
 #![tactic(auto)]
+
 ghost use Rattle.std.specs.Prelude.{◌≡◌, [], ◌∷◌, ◌+◌, ◌≤◌, length};
 ghost use Rattle.text.specs.Putting.{PutWithin};
 ghost use Rattle.spec.specs.Refusals.{reason};

@@ -1,5 +1,6 @@
 // Bytes put into a lent buffer, one after the other: each function answers where the next byte goes.
 #![tactic(auto)]
+
 ghost use Rattle.std.specs.Prelude.{◌≡◌, ◌∷◌, [], ◌++◌, ℕ, ◌+◌, ◌≤◌, ◌<◌, length, get_or};
 ghost use Rattle.text.specs.Spelling.{decimal, digits_of, hex_digit, hex_pair, hex_of};
 ghost use Rattle.text.specs.Putting.{Put, PutWithin};

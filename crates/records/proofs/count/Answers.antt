@@ -1,7 +1,6 @@
 -- `records::count` meets its contract.
 -- Assumes nothing.
 use mathlib.Core.Path.{refl}
-use borrow.Author.Rules.{rules}
 use Rattle.spec.specs.Records.{record_count}
 use Rattle.records.proofs.count.Goals as goal
 

@@ -3,7 +3,6 @@
 use Prim.Native.Nat.{◌*◌}
 use native.Mathlib.Omega.{arith}
 use lib.ListN.{length}
-use borrow.Author.Rules.{rules}
 use borrow.Author.Tests.{lt-ltb, le-ltb}
 use Rattle.spec.specs.Fits.{record_part}
 use Rattle.records.proofs.place_of.Goals as goal

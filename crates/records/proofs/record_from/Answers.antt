@@ -2,7 +2,6 @@
 -- Assumes nothing.
 use Prim.Native.Nat.{◌+◌}
 use lib.ListN.{get_or}
-use borrow.Author.Rules.{rules}
 use Rattle.spec.specs.Records.{rec_from}
 use Rattle.records.proofs.record_from.Goals as goal
 

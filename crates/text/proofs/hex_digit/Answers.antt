@@ -1,6 +1,5 @@
 -- `text::hex_digit` meets its contract, by its test.
 -- Assumes nothing.
-use borrow.Author.Rules.{rules}
 use borrow.Author.Tests.{lt-ltb, le-ltb}
 use Rattle.text.proofs.hex_digit.Goals as goal
 

@@ -1,11 +1,9 @@
 -- `text::put_bytes` meets its contract. The loop's invariant: the first i bytes are put. The measure is what is left of them.
 -- Assumes nothing.
 use mathlib.Core.Path.{refl}
-use Prim.Native.Nat.{◌-◌}
 use native.Mathlib.Omega.{arith}
-use lib.ListN.{length}
 use Rattle.text.proofs.Puts.{put_length}
-use Rattle.text.proofs.Spells.{byte, spelt_bytes, Spelling, spelling_start, spelling_next, spelling_all, spelling_place}
+use Rattle.text.proofs.Spells.{spelt_bytes, spelling_start, spelling_next, spelling_all, spelling_place}
 use Rattle.text.proofs.put_bytes.Goals as goal
 
 pub loop-i-init : goal.loop-i-init

@@ -1,9 +1,6 @@
-use mathlib.Core.Path.{refl}
 use Prim.Native.Nat.{◌-◌}
-use native.Mathlib.Omega.{arith}
 use lib.ListN.{length}
-use Rattle.text.proofs.Puts.{put_length}
-use Rattle.text.proofs.Spells.{byte, spelt_bytes, Spelling, spelling_start, spelling_next, spelling_all, spelling_place}
+use Rattle.text.proofs.Spells.{byte, Spelling}
 use Rattle.text.proofs.put_bytes.Given as goal
 
 abbrev pub invariant-loop-i : goal.invariant-loop-i

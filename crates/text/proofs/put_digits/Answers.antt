@@ -1,12 +1,10 @@
 -- `text::put_digits` meets its contract. The loop's invariant: the first i bytes are put. The measure is what is left of them.
 -- Assumes nothing.
 use mathlib.Core.Path.{refl}
-use Prim.Native.Nat.{◌-◌}
 use native.Mathlib.Omega.{arith}
-use lib.ListN.{length}
-use Rattle.text.specs.Spelling.{digit, digits_of}
+use Rattle.text.specs.Spelling.{digits_of}
 use Rattle.text.proofs.Puts.{put_length}
-use Rattle.text.proofs.Spells.{Spelling, spelling_start, spelling_next, spelling_all, spelling_place}
+use Rattle.text.proofs.Spells.{spelling_start, spelling_next, spelling_all, spelling_place}
 use Rattle.text.proofs.put_digits.Goals as goal
 
 pub loop-i-init : goal.loop-i-init

@@ -1,7 +1,6 @@
 -- `text::put_field` meets its contract: a number that fits a `usize` has at most 20 digits.
 -- Assumes nothing.
 use native.Mathlib.Omega.{arith}
-use borrow.Author.Rules.{rules}
 use lib.ListN.{length-append}
 use Rattle.text.specs.Spelling.{decimal}
 use Rattle.text.proofs.Puts.{put_then, put_length}

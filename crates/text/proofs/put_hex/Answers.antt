@@ -1,12 +1,11 @@
 -- `text::put_hex` meets its contract. The loop's invariant: the first i bytes are put. The measure is what is left of them.
 -- Assumes nothing.
 use mathlib.Core.Path.{refl, ap}
-use Prim.Native.Nat.{◌-◌, ◌<◌}
 use native.Mathlib.Omega.{arith}
 use lib.ListN.{length}
 use Rattle.text.specs.Spelling.{hex_pair}
 use Rattle.text.proofs.Puts.{put_length}
-use Rattle.text.proofs.Spells.{hex_none, hex_some, spelt_length, Spelling, spelling_start, spelling_next, spelling_all, spelling_place}
+use Rattle.text.proofs.Spells.{hex_none, hex_some, spelt_length, spelling_start, spelling_next, spelling_all, spelling_place}
 use Rattle.text.proofs.put_hex.Goals as goal
 
 pub put_byte-requires : goal.put_byte-requires

@@ -1,10 +1,7 @@
-use mathlib.Core.Path.{refl, ap}
 use Prim.Native.Nat.{◌-◌, ◌<◌}
-use native.Mathlib.Omega.{arith}
 use lib.ListN.{length}
 use Rattle.text.specs.Spelling.{hex_pair}
-use Rattle.text.proofs.Puts.{put_length}
-use Rattle.text.proofs.Spells.{hex_none, hex_some, spelt_length, Spelling, spelling_start, spelling_next, spelling_all, spelling_place}
+use Rattle.text.proofs.Spells.{Spelling}
 use Rattle.text.proofs.put_hex.Given as goal
 
 abbrev pub invariant-loop-i : goal.invariant-loop-i

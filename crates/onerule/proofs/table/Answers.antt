@@ -7,12 +7,8 @@ use Rattle.spec.specs.Records.{box_at}
 use Rattle.spec.specs.Facts.{holds}
 use Rattle.spec.specs.Rounds.{has, names, gives, follows, code, round, closed}
 use Rattle.spec.specs.OneRule.{record_of, states_of, packed, outcome}
-use Rattle.onerule.proofs.table.Statement.{statement}
-use Rattle.onerule.proofs.table.Tie as tie
+use Rattle.onerule.proofs.table.Goals as goal
 
-returns : tie.Need-returns
+pub returns : goal.returns
 unfolding kind_of rules_of box_at holds has names gives follows code round closed record_of states_of packed outcome
 returns c = refl
-
-pub table-spec : {M : Type 1} → statement M
-table-spec = tie.close (tie.spec returns)
