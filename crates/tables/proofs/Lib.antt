@@ -1,2 +1,4 @@
+pub mod Field
+pub mod Handed
 pub mod Straight
 pub mod Through

@@ -15,25 +15,26 @@ use mathlib.Core.Option.{Option, none, some}
 use mathlib.Core.List.{List, [], ◌∷◌}
 use Prim.Native.Nat.{ℕ, zero, suc, ◌+◌, ◌^◌}
 use seplogic.Ra.Ura.{Ura}
-use seplogic.Ra.TreeShare.{full_share}
+use base.Fraction.{full_share}
 use lib.Dec.{T as Holds, ltb, ltb→lt}
 use lib.ListN.{get_or}
-use mir.Syntax.{Name, Width, Ty, ty_int, ty_bool, ty_float, ty_ptr, ty_ref, ty_array, ty_unit, ty_struct, ty_enum, ty_named, Sym, Tys}
-use mir.Syntax.{Step as PStep, deref, field, variant, Place, place, Opd as Operand, copy, int, int_neg, int_big, float, opd_true, opd_false, opd_unit, ptr_const}
-use mir.Syntax.{Rv as RValue, rv_opd, op2, op1, addr_of, aggregate, repeat, Body, skip, seq, assign, block, loop, cond, switch, exit, return, call}
-use mir.Val.{Val, vunit, vbool, vint, vfloat, vptr, vstruct, Vals, vnil, vcons, of_list, WT, WTs, has_ty, bits}
-use mir.Fields.{get_v}
+use mir.Syntax.{Callee, Width, Ty, ty_int, ty_bool, ty_float, ty_ptr, ty_ref, ty_array, ty_unit, ty_struct, ty_enum, ty_named, ty_param, ty_const, ty_array_p, Sym, Tys}
+use mir.Syntax.{Step as PStep, deref, field, variant, Place, place, Opd as Operand, copy, int, int_neg, int_big, float, opd_true, opd_false, opd_unit, ptr_const, size_of, align_of, num_of, fn_addr, vtable}
+use mir.Syntax.{Rv as RValue, rv_opd, op2, op1, addr_of, aggregate, repeat, repeat_p, select, Body, skip, seq, assign, block, loop, cond, switch, exit, return, call, call_v, unreachable, lend_static}
+use mir.Val.{Val, vunit, vbool, vint, vfloat, vptr, vstruct, vcode, of_list, WT, WTs, has_ty, bits}
 use base.Logic.{SProp, ent, sep, emp, guard, id⊢, via, comm∗, snd∗}
-use base.Fml.{Share, Fml, ftrue, fsep, fat, froom, fdies}
-use prog.Memory.{field_at, field_of}
+use base.Fml.{Fml, ftrue, fsep, fat, froom, fdies}
+use prog.Memory.{field_at}
 use prog.Wp.{Heap, Env, no_local, Calls, Loops, release}
 use types.Logic.{Logic, sem}
 use types.Kit.{Item, ‵, raw, given, later, ⋆, Seq, Go, !, runs, at_ret, ◌$◌, ◌∵◌, qed, by, move, use1, learn, await, join, frame, fsplit, fjoin, done}
-use types.Part.{agg, whole, sub, look_in}
+use types.Part.{agg}
 use types.Run.{Reads, Writes, Walks, Finds, Opd, Opds, Rv, look, init, stop, hop, fld, from, load, lit, true_lit, false_lit, of_opd, addr}
 use types.Run.{and_then, no_more, assigns, land, returns}
 use sound.WpLaws.{FmC}
 use denote.Triple.Call.{calls_from}
+pub use Rattle.tables.proofs.Field.{wt_field, FieldAt}
+use Rattle.tables.proofs.Field.{in_struct}
 
 -- ---- on values
 abbrev pub Store : Type 0
@@ -70,11 +71,6 @@ hold_good σ g zero v w (suc j) = g (suc j)
 hold_good σ g (suc i) v w zero = g zero
 hold_good σ g (suc i) v w (suc j) = hold_good (λ k. σ (suc k)) (λ k. g (suc k)) i v w j
 
-pub wt_field : (us : Vals) (k : ℕ) → WTs us → WT (get_v us k)
-wt_field vnil k w = tt
-wt_field (vcons v us) zero w = w.0
-wt_field (vcons v us) (suc k) w = wt_field us k w.1
-
 abbrev and {ℓ κ} : {X : Type ℓ} {Y : Type κ} → Option X → (X → Option Y) → Option Y
 and none f = none
 and (some x) f = f x
@@ -94,6 +90,7 @@ pointer (vint w n) = none
 pointer (vfloat f x) = none
 pointer (vptr b o) = some (b, o, refl)
 pointer (vstruct us) = none
+pointer (vcode t) = none
 
 -- ---- what the locals own
 abbrev cell : Ty → ℕ → Option Val → Fml
@@ -207,29 +204,17 @@ module _ {M : Type 1} {𝓤 : Ura M} (𝓛 : Logic 𝓤) where
           (qed 𝓛 (Out (fat full_share τ (bs i) zero v)) ∵ fjoin ! $ use1 𝓛 (‵ (Own τs bs (hold σ i v))) (l.into bs σ v) $ frame ! $ done !) h));
     }
 
-  -- ---- a field of a value
-  pub record FieldAt (τ : Ty) (k : ℕ) (v u : Val) : Type 2 where
-    ty : Ty
-    off : ℕ
-    is : field_of τ k ≡ some (ty, off)
-    read : (q : Share) (b o : ℕ) (Γ : List (Item 𝓤)) → Reads (Go {0}) 𝓛 (‵ (fat q τ b o v) ∷ Γ) ty b (o + off) u
-    wt : WT v → WT u
-
-  abbrev in_struct : (ν : Sym) (τs : Tys) (k : ℕ) (us : Vals) (o : Option (Ty × ℕ)) → field_at zero τs k ≡ o
-      → Option ((u : Val) × FieldAt (ty_struct ν τs) k (vstruct us) u)
-  in_struct ν τs k us none e = none
-  in_struct ν τs k us (some f) e =
-      some (get_v us k, record { ty = f.0; off = f.1; is = e; read = λ q b o Γ. look_in ! 0 (sub ! k e (whole !)); wt = wt_field us k })
-
-  abbrev of_fields : (ν : Sym) (τs : Tys) (k : ℕ) (v : Val) → Option ((u : Val) × FieldAt (ty_struct ν τs) k v u)
+  -- ---- a field of a value (`Field.antt`)
+  abbrev of_fields : (ν : Sym) (τs : Tys) (k : ℕ) (v : Val) → Option ((u : Val) × FieldAt 𝓛 (ty_struct ν τs) k v u)
   of_fields ν τs k vunit = none
   of_fields ν τs k (vbool b) = none
   of_fields ν τs k (vint w n) = none
   of_fields ν τs k (vfloat f x) = none
   of_fields ν τs k (vptr b o) = none
-  of_fields ν τs k (vstruct us) = in_struct ν τs k us (field_at zero τs k) refl
+  of_fields ν τs k (vcode t) = none
+  of_fields ν τs k (vstruct us) = in_struct 𝓛 ν τs k us (field_at zero τs k) refl
 
-  abbrev part : (τ : Ty) (k : ℕ) (v : Val) → Option ((u : Val) × FieldAt τ k v u)
+  abbrev part : (τ : Ty) (k : ℕ) (v : Val) → Option ((u : Val) × FieldAt 𝓛 τ k v u)
   part (ty_int w) k v = none
   part ty_bool k v = none
   part (ty_float f) k v = none
@@ -239,7 +224,10 @@ module _ {M : Type 1} {𝓤 : Ura M} (𝓛 : Logic 𝓤) where
   part ty_unit k v = none
   part (ty_struct ν τs) k v = of_fields ν τs k v
   part (ty_enum ν τss) k v = none
-  part (ty_named ν) k v = none
+  part (ty_named ν τs) k v = none
+  part (ty_param i) k v = none
+  part (ty_const n) k v = none
+  part (ty_array_p τ i) k v = none
 
   -- ---- operands and right sides
   module _ (τs : List Ty) (σ : ℕ → Option Val) where
@@ -257,7 +245,7 @@ module _ {M : Type 1} {𝓤 : Ura M} (𝓛 : Logic 𝓤) where
       pub whole_is : OpdIs (copy (place i [])) v
       whole_is = (λ bs R. load ! (finds l bs σ R (stop !)) (reads l bs σ R v e (look ! 0 refl)), λ g. subst HoldsTyped e (g i))
 
-      module _ (k : ℕ) (u : Val) (p : FieldAt τ k v u) where
+      module _ (k : ℕ) (u : Val) (p : FieldAt 𝓛 τ k v u) where
         part_read : (bs : ℕ → ℕ) (R : SProp 𝓤) → Reads (Go {0}) 𝓛 (Cx τs bs σ R) p.ty (bs i) (zero + p.off) u
         part_read bs R = reads l bs σ R v e (p.read full_share (bs i) zero (‵ (Less τs bs σ i) ∷ raw R ∷ []))
 
@@ -290,6 +278,11 @@ module _ {M : Type 1} {𝓤 : Ura M} (𝓛 : Logic 𝓤) where
     opd opd_false = some (vbool false, (λ bs R. false_lit !, λ g. tt))
     opd opd_unit = none
     opd (ptr_const n) = none
+    opd (size_of τ) = none
+    opd (align_of τ) = none
+    opd (num_of w τ) = none
+    opd (fn_addr n ς) = none
+    opd (vtable τ ss) = none
 
     pub both_are : (x : Operand) (xs : List Operand) (v : Val) (vs : List Val) → OpdIs x v → OpdsAre xs vs → OpdsAre (x ∷ xs) (v ∷ vs)
     both_are x xs v vs o os = (λ bs R. and_then ! (o.0 bs R) (os.0 bs R), λ g. (o.1 g, os.1 g))
@@ -323,6 +316,8 @@ module _ {M : Type 1} {𝓤 : Ura M} (𝓛 : Logic 𝓤) where
     rv (op2 o x y) = none
     rv (op1 o x) = none
     rv (repeat x n) = none
+    rv (repeat_p x i) = none
+    rv (select m x y) = none
 
   -- ---- a body
   free_all : (τs : List Ty) (bs : ℕ → ℕ) (σ : ℕ → Option Val) (P : SProp 𝓤) → ent 𝓤 (sep 𝓤 (sem 𝓛 (Own τs bs σ)) P) (release 𝓤 H (env 𝓤 H τs bs) P)
@@ -337,17 +332,17 @@ module _ {M : Type 1} {𝓤 : Ura M} (𝓛 : Logic 𝓤) where
     Fit u = Holds (has_ty τ₀ u) × WT u
 
     -- where the call of n with us runs, so does the body
-    abbrev pub Runs : (ℕ → Option Val) → Body → Name → List Val → Type 2
+    abbrev pub Runs : (ℕ → Option Val) → Body → Callee → List Val → Type 2
     Runs σ b n us = (bs : ℕ → ℕ) (C : Calls 𝓤 H) (Λ : Loops 𝓤 H) → FmC 𝓤 H 𝓛.laws C → (P : SProp 𝓤) (Q K : Val → SProp 𝓤) → ent 𝓤 P (C n us Q)
         → ((u : Val) → ent 𝓤 (Q u) (H.⇛ (guard 𝓤 (Fit u) (K u)))) → AllTyped σ
         → Seq (Go {0}) 𝓛 (Cx (τ₀ ∷ τs) bs σ P) (runs C Λ (env 𝓤 H (τ₀ ∷ τs) bs) b (at_ret (env 𝓤 H (τ₀ ∷ τs) bs) K))
 
-    pub assign_runs : (σ : ℕ → Option Val) (j : ℕ) (r : RValue) (rest : Body) (n : Name) (us : List Val) (τ : Ty) (v : Val) → Lives (τ₀ ∷ τs) j τ
+    pub assign_runs : (σ : ℕ → Option Val) (j : ℕ) (r : RValue) (rest : Body) (n : Callee) (us : List Val) (τ : Ty) (v : Val) → Lives (τ₀ ∷ τs) j τ
         → RvIs (τ₀ ∷ τs) σ r v → Holds (has_ty τ v) → Runs (hold σ j v) rest n us → Runs σ (seq (assign (place j []) r) rest) n us
     assign_runs σ j r rest n us τ v l is t k bs C Λ fm P Q K met ans g =
         assigns ! (is.0 bs P) (finds l bs σ P (stop !)) (stores l bs σ P v (t, is.1 g)) $ k bs C Λ fm P Q K met ans (hold_good σ g j v (is.1 g))
 
-    pub call_runs : (σ : ℕ → Option Val) (n : Name) (xs : List Operand) (us : List Val) → OpdsAre (τ₀ ∷ τs) σ xs us
+    pub call_runs : (σ : ℕ → Option Val) (n : Callee) (xs : List Operand) (us : List Val) → OpdsAre (τ₀ ∷ τs) σ xs us
         → Runs σ (seq (call n xs (place zero [])) return) n us
     call_runs σ n xs us os bs C Λ fm P Q K met ans g =
         move ! (1 ∷ []) $ calls_from ! fm (raw P) us Q met swapped (λ u.
@@ -363,10 +358,10 @@ module _ {M : Type 1} {𝓤 : Ura M} (𝓛 : Logic 𝓤) where
         }
 
     abbrev pub Called : (ℕ → Option Val) → Body → Type 2
-    Called σ b = Option ((n : Name) × (us : List Val) × Runs σ b n us)
+    Called σ b = Option ((n : Callee) × (us : List Val) × Runs σ b n us)
 
     -- what follows the call is the return
-    abbrev last : (σ : ℕ → Option Val) (n : Name) (xs : List Operand) (rest : Body) → Called σ (seq (call n xs (place zero [])) rest)
+    abbrev last : (σ : ℕ → Option Val) (n : Callee) (xs : List Operand) (rest : Body) → Called σ (seq (call n xs (place zero [])) rest)
     last σ n xs return = and (opds (τ₀ ∷ τs) σ xs) (λ os. some (n, os.0, call_runs σ n xs os.0 os.1))
     last σ n xs skip = none
     last σ n xs (seq a b) = none
@@ -377,9 +372,12 @@ module _ {M : Type 1} {𝓤 : Ura M} (𝓛 : Logic 𝓤) where
     last σ n xs (switch c arms) = none
     last σ n xs (exit k) = none
     last σ n xs (call m ys p) = none
+    last σ n xs unreachable = none
+    last σ n xs (call_v c ς ys p) = none
+    last σ n xs (lend_static p τ c) = none
 
     -- and its result is the function's
-    abbrev called : (σ : ℕ → Option Val) (n : Name) (xs : List Operand) (p : Place) (rest : Body) → Called σ (seq (call n xs p) rest)
+    abbrev called : (σ : ℕ → Option Val) (n : Callee) (xs : List Operand) (p : Place) (rest : Body) → Called σ (seq (call n xs p) rest)
     called σ n xs (place zero []) rest = last σ n xs rest
     called σ n xs (place (suc i) []) rest = none
     called σ n xs (place i (s ∷ st)) rest = none
@@ -398,6 +396,9 @@ module _ {M : Type 1} {𝓤 : Ura M} (𝓛 : Logic 𝓤) where
     hands σ (seq (switch c arms) b) = none
     hands σ (seq (exit k) b) = none
     hands σ (seq return b) = none
+    hands σ (seq unreachable b) = none
+    hands σ (seq (call_v c ς xs p) b) = none
+    hands σ (seq (lend_static p τ c) b) = none
     hands σ skip = none
     hands σ (assign p r) = none
     hands σ (block b) = none
@@ -407,3 +408,6 @@ module _ {M : Type 1} {𝓤 : Ura M} (𝓛 : Logic 𝓤) where
     hands σ (exit k) = none
     hands σ return = none
     hands σ (call n xs p) = none
+    hands σ unreachable = none
+    hands σ (call_v c ς xs p) = none
+    hands σ (lend_static p τ c) = none

@@ -1,23 +1,22 @@
 -- The law by which a callee's contract passes through a function that only hands its parameters on: on the way they may stand in a struct, or be
 -- lent on. Nothing of the contract is opened.
---     Hands            run on values (`Straight.antt`), the function's MIR calls n, and hands it its own parameters, each in its place
+--     Hands            run on values (`Straight.antt`), the function's MIR calls n, and hands it its own parameters, each in its place (`Handed.antt`)
 --     hands_on         such a function runs wherever the call of n with its parameters does
 --     through          so it meets every contract at the signature S that n meets
 --     Known            what the law asks of a parameter's type: its machine values, and that they are of its MIR types
---     slice, buffer, number, truth     the same of `&[u8]`, `&mut [u8]`, `usize` and `bool`;   with-tables    of the two tables and n, before others
+--     slice, buffer, number, truth     the same of `&[u8]`, `&mut [u8]`, `usize` and `bool`;   with_tables    of the two tables and n, before others
 -- A function with other parameters needs no other law: `through` is given an entry for each of its parameters, in their order, and `refl` shows
 -- that its code hands them on. A type that is not here gets its `Known` from its laws, as `Denote/Plain.antt` and a declared type's have them.
 -- Assumes `Logic`.
-use mathlib.Core.Path.{◌≡◌, refl, sym, subst}
-use mathlib.Core.Bool.{Bool, true, false, ◌&&◌}
-use mathlib.Core.Option.{Option, none, some}
+use mathlib.Core.Path.{refl, sym, subst}
+use mathlib.Core.Option.{none, some}
 use mathlib.Core.List.{List, [], ◌∷◌}
 use Prim.Native.Nat.{ℕ, zero, suc}
 use seplogic.Ra.Ura.{Ura}
-use seplogic.Ra.TreeShare.{full_share}
+use base.Fraction.{full_share}
 use lib.Dec.{T as Holds}
 use mir.Facts.{and_yes}
-use mir.Syntax.{Name, Ty, Lifetime, named, Local, local, Body, Fn, w64}
+use mir.Syntax.{Callee, Ty, Lifetime, named, Local, local, Body, Fn, w64}
 use mir.Val.{Val, WT, has_ty}
 use base.Logic.{SProp, ent, sep, wand, guard, wand_i, wand_e}
 use base.Fml.{Lft, Fml, fsep, fat, froom, fdies}
@@ -39,16 +38,8 @@ use denote.Triple.Entry.{Args, Res, alive}
 use denote.Triple.Statement.{Contract, Triple}
 use denote.Triple.Spec.{Spec, triple_of}
 use Rattle.tables.proofs.Straight.{entry, listed, Own, HoldsTyped, AllTyped, env, Called, hands}
-
-abbrev tys : List Local → List Ty
-tys [] = []
-tys (local τ h ∷ ls) = τ ∷ tys ls
-
--- the values are of the first of these types
-abbrev typed : List Ty → List Val → Bool
-typed τs [] = true
-typed [] (v ∷ vs) = false
-typed (τ ∷ τs) (v ∷ vs) = has_ty τ v && typed τs vs
+use Rattle.tables.proofs.Handed.{tys, typed, calls_with, hands_in}
+pub use Rattle.tables.proofs.Handed.{Hands}
 
 -- and within their widths
 abbrev Wide : List Val → Type 0
@@ -109,31 +100,20 @@ module _ {M : Type 1} {𝓤 : Ura M} (𝓛 : Logic 𝓤) where
       (wrap (fat full_share τ (bs zero) zero v) (fdies τ (bs zero)) (Own τs (λ j. bs (suc j)) (listed vs)) i s)
 
   -- ---- a function
-  abbrev calls_with : (τ₀ : Ty) (τs : List Ty) (σ : ℕ → Option Val) (b : Body) → Called 𝓛 τ₀ τs σ b → Name → List Val → Type 0
-  calls_with τ₀ τs σ b none n vs = ⊥
-  calls_with τ₀ τs σ b (some h) n vs = (h.0 ≡ n) × (h.1 ≡ vs)
-
-  abbrev hands_in : List Ty → Body → Name → List Val → Type 0
-  hands_in [] b n vs = ⊥
-  hands_in (τ₀ ∷ τs) b n vs = Holds (typed τs vs) × calls_with τ₀ τs (entry vs) b (hands 𝓛 τ₀ τs (entry vs) b) n vs
-
-  abbrev pub Hands : Fn → Name → List Val → Type 0
-  Hands f n vs = hands_in (tys f.locals) f.body n vs
-
-  module _ (n : Name) (vs : List Val) (C : Calls 𝓤 H) (Λ : Loops 𝓤 H) (fm : FmC 𝓤 H 𝓛.laws C) (P : SProp 𝓤) (Q K : Val → SProp 𝓤)
+  module _ (n : Callee) (vs : List Val) (C : Calls 𝓤 H) (Λ : Loops 𝓤 H) (fm : FmC 𝓤 H 𝓛.laws C) (P : SProp 𝓤) (Q K : Val → SProp 𝓤)
       (met : ent 𝓤 P (C n vs Q)) (w : Wide vs) where
     module _ (τ₀ : Ty) (τs : List Ty) (ans : (u : Val) → ent 𝓤 (Q u) (H.⇛ (guard 𝓤 (returned (τ₀ ∷ τs) u) (K u)))) (bs : ℕ → ℕ) where
       abbrev E : Env 𝓤 H
       E = env 𝓤 H (τ₀ ∷ τs) bs
 
-      called_with : (b : Body) (o : Called 𝓛 τ₀ τs (entry vs) b) → calls_with τ₀ τs (entry vs) b o n vs
+      called_with : (b : Body) (o : Called 𝓛 τ₀ τs (entry vs) b) → calls_with 𝓛 τ₀ τs (entry vs) b o n vs
           → Seq (Go {0}) 𝓛 (‵ (Own (τ₀ ∷ τs) bs (entry vs)) ∷ raw P ∷ []) (runs C Λ E b (at_ret E K))
       called_with b none e = absurd e
       called_with b (some h) e =
           h.2 bs C Λ fm P Q K
-          (subst (λ (m : Name). ent 𝓤 P (C m h.1 Q)) (sym e.0) (subst (λ (us : List Val). ent 𝓤 P (C n us Q)) (sym e.1) met)) ans (entry_good vs w)
+          (subst (λ (m : Callee). ent 𝓤 P (C m h.1 Q)) (sym e.0) (subst (λ (us : List Val). ent 𝓤 P (C n us Q)) (sym e.1) met)) ans (entry_good vs w)
 
-    enters : (ls : List Local) (b : Body) → hands_in (tys ls) b n vs → ((u : Val) → ent 𝓤 (Q u) (H.⇛ (guard 𝓤 (returned (tys ls) u) (K u))))
+    enters : (ls : List Local) (b : Body) → hands_in 𝓛 (tys ls) b n vs → ((u : Val) → ent 𝓤 (Q u) (H.⇛ (guard 𝓤 (returned (tys ls) u) (K u))))
         → Seq (Go {0}) 𝓛 (raw P ∷ []) (allocs ls (λ E. params' E vs (runs C Λ E b (at_ret E K))))
     enters [] b h ans = absurd h
     enters (local τ₀ home ∷ ls) b h ans =
@@ -143,7 +123,7 @@ module _ {M : Type 1} {𝓤 : Ura M} (𝓛 : Logic 𝓤) where
         (wrap (froom τ₀ (bs zero) zero) (fdies τ₀ (bs zero)) (Own (tys ls) (λ j. bs (suc j)) (listed vs)) (raw P)
         (called_with τ₀ (tys ls) ans bs b (hands 𝓛 τ₀ (tys ls) (entry vs) b) h.1)))
 
-    pub hands_on : (f : Fn) → Hands f n vs → ((u : Val) → ent 𝓤 (Q u) (H.⇛ (guard 𝓤 (Returned f u) (K u)))) → ent 𝓤 P (WpFn 𝓤 H C Λ f vs K)
+    pub hands_on : (f : Fn) → Hands 𝓛 f n vs → ((u : Val) → ent 𝓤 (Q u) (H.⇛ (guard 𝓤 (Returned f u) (K u)))) → ent 𝓤 P (WpFn 𝓤 H C Λ f vs K)
     hands_on f h ans = qed 𝓛 (raw P ∷ []) ∵ enter ! C Λ f vs K $ enters f.locals f.body h ans
 
   -- ---- at a contract
@@ -184,7 +164,7 @@ module _ {M : Type 1} {𝓤 : Ura M} (𝓛 : Logic 𝓤) where
   abbrev pub with_tables : {X : Type 1} (κ : Lft) → X → Known (ShrSlice (named 0) κ u8) × (Known (ShrSlice (named 0) κ u8) × (Known usize × X))
   with_tables κ further = (slice (named 0) κ, (slice (named 0) κ, (number, further)))
 
-  module _ (S : Signature) (c : Spec 𝓤 S) (f : Fn) (n : Name) where
+  module _ (S : Signature) (c : Spec 𝓤 S) (f : Fn) (n : Callee) where
     abbrev Con : Contract 𝓤
     Con = triple_of 𝓛 S c
 
@@ -206,7 +186,7 @@ module _ {M : Type 1} {𝓤 : Ura M} (𝓛 : Logic 𝓤) where
 
     pub through : (ks : (κs : Lfts S.lifetimes) → AllKnown (types_at S.params κs))
         → ((κs : Lfts S.lifetimes) (r : Res S κs) (u : Val) → Is (type_at S.result κs) r (u ∷ []) → Returned f u)
-        → ((κs : Lfts S.lifetimes) (a : Args S κs) → Hands f n (given κs (ks κs) a))
+        → ((κs : Lfts S.lifetimes) (a : Args S κs) → Hands 𝓛 f n (given κs (ks κs) a))
         → (C : Calls 𝓤 H) (Λ : Loops 𝓤 H) → FmC 𝓤 H 𝓛.laws C → Triple 𝓤 (C n) Con → Triple 𝓤 (WpFn 𝓤 H C Λ f) Con
     through ks fits hand C Λ fm known y =
         let κs = y.0.0 in
