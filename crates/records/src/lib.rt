@@ -19,7 +19,7 @@ const SIZE: usize = 8;
 const NO_BOX: usize = 65535;
 
 // The eight bytes of a record: kind, byte 1, and the boxes x, y, z.
-#[derive(Drop)]
+#[derive(Clone, Copy)]
 pub struct Record {
     pub kind: u8,
     pub byte1: u8,

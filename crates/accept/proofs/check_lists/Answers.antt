@@ -14,12 +14,12 @@ returns-in-Refused c =
     let start = c in
     chain_refused (given_check start.args.n start.args.given.now ∷ [])
     (out_check start.args.n start.args.out.now ∷ list_check start.args.given.now ∷ []) passed
-    (ap form_says (sym c.length-1.given.1) ∙ c.check_given-length.ensures)
+    c.in-Refused.ensures
 
 pub returns : goal.returns
 returns c =
     let start = c in
     chain_passed (given_check start.args.n start.args.given.now ∷ [])
     (out_check start.args.n start.args.out.now ∷ list_check start.args.given.now ∷ [])
-    (ap form_says (sym c.enum_told-1.given.1) ∙ c.check_given-length.ensures)
+    c.in_default.ensures
     c.check_out_and_list.ensures

@@ -15,7 +15,7 @@ returns-in-Refused c =
     chain_refused (sheet_checks start.args.maker.now start.args.depot.now start.args.sheet.now)
     (given_check (length start.args.sheet.now) start.args.given.now ∷ out_check (length start.args.sheet.now) start.args.out.now ∷
     list_check start.args.given.now ∷ []) passed
-    (ap form_says (sym c.form-1.given.1) ∙ c.check_sheet_call-form.ensures)
+    c.in-Refused.ensures
 
 pub returns : goal.returns
 returns c =
@@ -23,5 +23,5 @@ returns c =
     chain_passed (sheet_checks start.args.maker.now start.args.depot.now start.args.sheet.now)
     (given_check (length start.args.sheet.now) start.args.given.now ∷ out_check (length start.args.sheet.now) start.args.out.now ∷
     list_check start.args.given.now ∷ [])
-    (ap form_says (sym c.enum_told-1.given.1) ∙ c.check_sheet_call-form.ensures)
+    c.in_default.ensures
     c.check_lists.ensures

@@ -14,12 +14,12 @@ returns-in-Refused c =
     let start = c in
     chain_refused (sheet_checks start.args.maker.now start.args.depot.now start.args.sheet.now)
     (out_check (length start.args.sheet.now) start.args.out.now ∷ []) passed
-    (ap form_says (sym c.form-1.given.1) ∙ c.check_sheet_call-form.ensures)
+    c.in-Refused.ensures
 
 pub returns : goal.returns
 returns c =
     let start = c in
     chain_passed (sheet_checks start.args.maker.now start.args.depot.now start.args.sheet.now)
     (out_check (length start.args.sheet.now) start.args.out.now ∷ [])
-    (ap form_says (sym c.enum_told-1.given.1) ∙ c.check_sheet_call-form.ensures)
+    c.in_default.ensures
     c.check_out.ensures

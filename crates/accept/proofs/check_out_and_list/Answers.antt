@@ -12,11 +12,11 @@ pub returns-in-Refused : goal.returns-in-Refused
 returns-in-Refused c =
     let start = c in
     chain_refused (out_check start.args.n start.args.out.now ∷ []) (list_check start.args.given.now ∷ []) passed
-    (ap form_says (sym c.room-1.given.1) ∙ c.check_out-room.ensures)
+    c.in-Refused.ensures
 
 pub returns : goal.returns
 returns c =
     let start = c in
     chain_passed (out_check start.args.n start.args.out.now ∷ []) (list_check start.args.given.now ∷ [])
-    (ap form_says (sym c.enum_told-1.given.1) ∙ c.check_out-room.ensures)
+    c.in_default.ensures
     c.check_list.ensures

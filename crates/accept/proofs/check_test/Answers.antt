@@ -14,11 +14,11 @@ returns-in-Refused c =
     let start = c in
     chain_refused (table_checks (length start.args.list.now) start.args.maker.now start.args.depot.now)
     (list_check start.args.list.now ∷ []) passed
-    (ap form_says (sym c.tables-1.given.1) ∙ c.check_tables-tables.ensures)
+    c.in-Refused.ensures
 
 pub returns : goal.returns
 returns c =
     let start = c in
     chain_passed (table_checks (length start.args.list.now) start.args.maker.now start.args.depot.now) (list_check start.args.list.now ∷ [])
-    (ap form_says (sym c.enum_told-1.given.1) ∙ c.check_tables-tables.ensures)
+    c.in_default.ensures
     c.check_list.ensures

@@ -20,7 +20,11 @@ pub loop-i-preserved : goal.loop-i-preserved
 loop-i-preserved c =
     let at_loop = c in (
       search rules,
-      elim c.if-top-s.branch [ then-top-s w ↦ λ w e. absurd (true≢false (sym w.IS ∙ e)) w | else-top-s w ↦ λ w e. below_more _ at_loop.loop-i.i (at_loop.loop-i.invariant.1 (sym w.IS ∙ e)) (le-ltb _ _ w.if-top-s.false) w ],
+      elim c.if-top-s.branch [
+        then-top-s w ↦ λ e. absurd (true≢false (sym w.found-is ∙ e))
+      | else-top-s w ↦
+          λ e. below_more _ at_loop.loop-i.i (at_loop.loop-i.invariant.1 (sym w.found-is ∙ e)) (le-ltb _ _ w.if-top-s.false)
+      ],
     )
 
 pub returns : goal.returns
