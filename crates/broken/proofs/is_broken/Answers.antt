@@ -11,31 +11,15 @@ use Rattle.spec.specs.Records.{Rec, box_at, is_rule}
 use Rattle.spec.specs.Fits.{is_in, breaks, is_broken}
 use Rattle.records.specs.Record.{as_rec}
 use Rattle.broken.specs.Places.{at_places}
-use Rattle.broken.proofs.is_broken.Statement.{statement}
-use Rattle.broken.proofs.is_broken.Tie as tie
+use Rattle.broken.proofs.is_broken.Goals as goal
 
-is-rule-requires : tie.Need-is-rule-requires
-is-rule-requires c κs = search rules
-
-returns : tie.Need-returns
+pub returns-then-not-is_rule : goal.returns-then-not-is_rule
 unfolding is_broken
-returns c =
-    let start = c.before.before.before in
+returns-then-not-is_rule c =
+    let start = c in
     let none : is_rule (as_rec start.args.q) ≡ false =
-    sym c.before.is_rule_lem.ensures ∙ not-true c.before.is_rule_lem.result c.if1.true in
+    sym c.is_rule.ensures ∙ c.if-not-is_rule.true in
     rw none
-
-is-in-requires : tie.Need-is-in-requires
-is-in-requires c κs = search rules
-
-is-in-requires-2 : tie.Need-is-in-requires-2
-is-in-requires-2 c κs = search rules
-
-is-in-requires-3 : tie.Need-is-in-requires-3
-is-in-requires-3 c κs = search rules
-
-truth-requires : tie.Need-truth-requires
-truth-requires c κs = search rules
 
 -- the truth table reads its places through the three boxes
 read_places : (l : List ℕ) (q : Rec) → at_places (is_in l q.x) (is_in l q.y) (is_in l q.z) ≡ (λ p. is_in l (box_at q p))
@@ -45,28 +29,16 @@ read_places l q = fun_ext (elim [ X ↦ refl | Y ↦ refl | Z ↦ refl ])
 reads_are : {a b c a' b' c' : Bool} → a ≡ a' → b ≡ b' → c ≡ c' → at_places a b c ≡ at_places a' b' c'
 reads_are e f g i = at_places (e i) (f i) (g i)
 
-returns-2 : tie.Need-returns-2
+pub returns : goal.returns
 unfolding is_broken breaks
-returns-2 c =
-    let a_rule = c.before.before.before.before in
-    let start = a_rule.before.before.before in
+returns c =
+    let a_rule = c in
+    let start = a_rule in
     let counts : is_rule (as_rec start.args.q) ≡ true =
-    sym a_rule.before.is_rule_lem.ensures ∙ not-false a_rule.before.is_rule_lem.result a_rule.if1.false in
+    sym a_rule.is_rule.ensures ∙ a_rule.if-not-is_rule.false in
     rw counts
     (ap not
     (c.truth.ensures
     ∙ ap (meaning (kind_of start.args.q.kind))
-    (reads_are c.before.before.before.is_in_lem.ensures c.before.before.is-in2.ensures c.before.is-in3.ensures
+    (reads_are c.is_in.ensures c.is_in-2.ensures c.is_in-3.ensures
     ∙ read_places start.args.list.now (as_rec start.args.q))))
-
-pub is-broken-spec : {M : Type 1} → statement M
-is-broken-spec =
-    tie.close
-    (tie.spec
-    is-rule-requires
-    returns
-    is-in-requires
-    is-in-requires-2
-    is-in-requires-3
-    truth-requires
-    returns-2)

@@ -1,0 +1,17 @@
+use mathlib.Core.Path.{◌≡◌, refl, sym, ap, ◌∙◌}
+use mathlib.Core.Logic.{⊎_elim}
+use Prim.Native.Nat.{◌-◌, ◌≤◌}
+use native.Mathlib.Omega.{arith}
+use borrow.Author.Rules.{rules}
+use lib.ListN.{length}
+use Rattle.spec.specs.Records.{is_rule}
+use Rattle.index.specs.Index.{packed_rules}
+use Rattle.index.proofs.Packing.{rules_below, rules_kept, rules_passed, packed_all}
+use Rattle.index.proofs.pack.Given as goal
+
+abbrev pub invariant-loop-i : goal.invariant-loop-i
+invariant-loop-i l =
+    (l.i ≤ l.all) × (l.m ≤ l.i) × (length l.packed ≡ 4096) × (packed_rules l.packed l.m ≡ rules_below l.maker l.depot l.i)
+
+abbrev pub decreases-loop-i : goal.decreases-loop-i
+decreases-loop-i l = l.all - l.i

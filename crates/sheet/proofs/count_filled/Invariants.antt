@@ -1,0 +1,24 @@
+use mathlib.Core.Path.{◌≡◌, refl}
+use mathlib.Core.Logic.{⊎_elim}
+use mathlib.Core.Bool.{Bool, true, false, cond, not, ◌&&◌}
+use mathlib.Core.List.{List}
+use Prim.Native.Nat.{ℕ, ◌+◌, ◌*◌, ◌-◌, ◌≤◌}
+use native.Mathlib.Omega.{arith}
+use borrow.Author.Rules.{rules}
+use borrow.Author.Tests.{eq-eqb, ne_eqb}
+use lib.Dec.{eqb}
+use lib.ListN.{length, get_or}
+use Rattle.lemmas.specs.Lists.{count, upto}
+use Rattle.spec.specs.Fill.{boxes_filled}
+use Rattle.lemmas.proofs.Indexed.{count_upto_yes, count_upto_no, count_upto_below}
+use Rattle.sheet.proofs.count_filled.Given as goal
+
+-- the box was open and is not now
+abbrev pub is_filled : List ℕ → List ℕ → ℕ → Bool
+is_filled sheet filled b = eqb (get_or sheet b 0) 2 && not (eqb (get_or filled b 0) 2)
+
+abbrev pub invariant-loop-b : goal.invariant-loop-b
+invariant-loop-b l = (l.b ≤ length l.sheet) × (l.n ≡ count (is_filled l.sheet l.filled) (upto l.b))
+
+abbrev pub decreases-loop-b : goal.decreases-loop-b
+decreases-loop-b l = length l.sheet - l.b

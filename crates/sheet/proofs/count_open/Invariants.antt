@@ -1,0 +1,23 @@
+use mathlib.Core.Path.{◌≡◌, refl, sym, ◌∙◌}
+use mathlib.Core.Bool.{Bool}
+use mathlib.Core.List.{List}
+use Prim.Native.Nat.{ℕ, ◌-◌, ◌≤◌}
+use native.Mathlib.Omega.{arith}
+use borrow.Author.Rules.{rules}
+use borrow.Author.Tests.{eq-eqb, ne_eqb}
+use lib.Dec.{eqb}
+use lib.ListN.{length, get_or}
+use mathlib.Core.Logic.{⊎_elim}
+use Rattle.lemmas.specs.Lists.{count, upto}
+use Rattle.spec.specs.Fill.{open_count}
+use Rattle.lemmas.proofs.Indexed.{count_indexed, count_upto_yes, count_upto_no, count_upto_below}
+use Rattle.sheet.proofs.count_open.Given as goal
+
+abbrev pub is_open : List ℕ → ℕ → Bool
+is_open sheet b = eqb 2 (get_or sheet b 0)
+
+abbrev pub invariant-loop-b : goal.invariant-loop-b
+invariant-loop-b l = (l.b ≤ length l.sheet) × (l.n ≡ count (is_open l.sheet) (upto l.b))
+
+abbrev pub decreases-loop-b : goal.decreases-loop-b
+decreases-loop-b l = length l.sheet - l.b
