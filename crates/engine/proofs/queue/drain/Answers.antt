@@ -10,7 +10,7 @@ use Rattle.spec.specs.Records.{Rec}
 use Rattle.theory.specs.Steps.{Grown}
 use Rattle.theory.proofs.Growth.{grown_refl, grown_trans, grown_clash}
 use Rattle.index.specs.Index.{packed_rules}
-use Rattle.engine.specs.Queue.{Lent, AllWait, Visited}
+use Rattle.engine.specs.Queue.{VisitedTo}
 use Rattle.engine.specs.declared.step.Move.{Move}
 use Rattle.engine.specs.declared.step.Move.TheVariants.{Noted, Clash}
 use Rattle.engine.proofs.Running.{lent_ran}
@@ -26,31 +26,20 @@ pub bounds-queue-head : goal.bounds-queue-head
 bounds-queue-head c = omega (arith, c.loop-head.invariant.1.room)
 
 pub offset_bounds-first-b : goal.offset_bounds-first-b
-offset_bounds-first-b c = omega (arith, c.box_of-b.ensures.m_after)
+offset_bounds-first-b c = omega (arith, c.box_of-b.ensures.1)
 
 pub bounds-first-b : goal.bounds-first-b
-bounds-first-b c = c.box_of-b.ensures.m_after
+bounds-first-b c = c.box_of-b.ensures.1
 
 pub visit-answer-requires : goal.visit-answer-requires
 visit-answer-requires c =
     let taken = c in
-    let at_loop = taken in record { packed = (at_loop).requires.packed; chained = rw c.entry_of.ensures (chained (at_loop).requires.linked taken.box_of-b.ensures.m_after); lent = at_loop.loop-head.invariant.1 }
+    let at_loop = taken in record { packed = (at_loop).requires.packed; chained = rw c.entry_of.ensures (chained (at_loop).requires.linked taken.box_of-b.ensures.1); lent = at_loop.loop-head.invariant.1 }
 
 pub returns-in-Clash : goal.returns-in-Clash
 returns-in-Clash c =
-    let visit = c in
-    let lost = (let h : (answer : Move) → visit.visit-answer.result ≡ answer →
-    (λ b answer.
-    let at_loop = visit in
-    Visited ((packed_rules (at_loop).args.packed.now (at_loop).args.m)) b at_loop.loop-head.states (visit.visit-answer.new.states) at_loop.loop-head.queue (visit.visit-answer.new.queue) at_loop.loop-head.tail answer) (get_or (visit).loop-head.queue (visit).loop-head.head 0) answer =
-        λ answer e.
-    subst (λ (b : ℕ). (λ b answer.
-    let at_loop = visit in
-    Visited ((packed_rules (at_loop).args.packed.now (at_loop).args.m)) b at_loop.loop-head.states (visit.visit-answer.new.states) at_loop.loop-head.queue (visit.visit-answer.new.queue) at_loop.loop-head.tail answer) b answer) visit.box_of-b.ensures.packed_len_2
-    (subst ((λ b answer.
-    let at_loop = visit in
-    Visited ((packed_rules (at_loop).args.packed.now (at_loop).args.m)) b at_loop.loop-head.states (visit.visit-answer.new.states) at_loop.loop-head.queue (visit.visit-answer.new.queue) at_loop.loop-head.tail answer) visit.box_of-b.result) e visit.visit-answer.ensures) in h) Clash c.enum_told-1.given.1 in
-    let inv = (visit).loop-head.invariant in
+    let lost = c.in-Clash.ensures in
+    let inv = c.loop-head.invariant in
     record { rested = (lost.clash.0, grown_clash inv.2 lost.clash.1); queue_len = lost.size ∙ inv.1.size }
 
 pub overflow_add-head : goal.overflow_add-head
@@ -61,23 +50,18 @@ loop-head-smaller c = omega (arith, (c).loop-head.invariant.1.room)
 
 pub loop-head-preserved : goal.loop-head-preserved
 loop-head-preserved c =
-    let visit = c in
-    let at_loop = visit in
-    let gone = (let h : (answer : Move) → visit.visit-answer.result ≡ answer →
-    (λ b answer.
-    let at_loop = visit in
-    Visited ((packed_rules (at_loop).args.packed.now (at_loop).args.m)) b at_loop.loop-head.states (visit.visit-answer.new.states) at_loop.loop-head.queue (visit.visit-answer.new.queue) at_loop.loop-head.tail answer) (get_or (visit).loop-head.queue (visit).loop-head.head 0) answer =
-        λ answer e.
-    subst (λ (b : ℕ). (λ b answer.
-    let at_loop = visit in
-    Visited ((packed_rules (at_loop).args.packed.now (at_loop).args.m)) b at_loop.loop-head.states (visit.visit-answer.new.states) at_loop.loop-head.queue (visit.visit-answer.new.queue) at_loop.loop-head.tail answer) b answer) visit.box_of-b.ensures.packed_len_2
-    (subst ((λ b answer.
-    let at_loop = visit in
-    Visited ((packed_rules (at_loop).args.packed.now (at_loop).args.m)) b at_loop.loop-head.states (visit.visit-answer.new.states) at_loop.loop-head.queue (visit.visit-answer.new.queue) at_loop.loop-head.tail answer) visit.box_of-b.result) e visit.visit-answer.ensures) in h) (Noted c.answer-1.given.0.0) c.answer-1.given.1 in (
+    let l = c.loop-head in
+    -- the visit was of the box that was taken
+    let gone =
+    subst
+    (λ (b : ℕ).
+    VisitedTo (packed_rules c.args.packed.now c.args.m) b l.states c.visit-answer.new.states l.queue c.visit-answer.new.queue l.tail
+    c.in-Noted.end)
+    c.box_of-b.ensures.0 c.in-Noted.ensures in (
       omega (arith, gone.ran.queued.later),
-      lent_ran at_loop.loop-head.invariant.1 gone.ran,
-      grown_trans at_loop.loop-head.invariant.2 gone.ran.grown,
-      drain_step at_loop.loop-head.invariant.3 (omega arith) gone,
+      lent_ran c.loop-head.invariant.1 gone.ran,
+      grown_trans c.loop-head.invariant.2 gone.ran.grown,
+      drain_step c.loop-head.invariant.3 (omega arith) gone,
     )
 
 pub returns : goal.returns

@@ -3,19 +3,49 @@
 use mathlib.Core.Path.{◌≡◌, refl, sym, subst, ◌∙◌}
 use mathlib.Core.Bool.{false}
 use mathlib.Core.List.{List}
-use Prim.Native.Nat.{ℕ}
-use borrow.Author.Rules.{rules}
+use Prim.Native.Nat.{ℕ, ◌<◌}
 use borrow.Author.Tests.{not-true, not-false}
 use lib.ListN.{get_or}
-use Rattle.spec.specs.Records.{Rec}
 use Rattle.theory.specs.Steps.{IsSheet, z_missing}
 use Rattle.theory.proofs.Stepping.{new_sheet, step_clash}
-use Rattle.fire.specs.States.{three, counted}
+use Rattle.fire.specs.declared.States.{States}
+use Rattle.fire.specs.States.{Fired, three, counted}
 use Rattle.fire.proofs.Closures.{counted_sheet, z_dropped_lem, clash_at_x}
 use Rattle.index.specs.Index.{rule_of}
+use Rattle.engine.specs.Queue.{StepInput}
 use Rattle.engine.proofs.OneRecord.{Fires, rule_z, rule_state_z, look_x, look_y, look_states}
 use Rattle.engine.proofs.OneRecord.{fires_read, settling_x, settling_y, settling_z, pair_fired, triple_fired}
 use Rattle.engine.proofs.step.step.Goals as goal
+
+-- what `fire` gave for the rule's three states
+module _ (kind x y z : ℕ) {s queue : List ℕ} {tail : ℕ} (input : StepInput (rule_of kind x y z) s queue tail) (small : z < 256)
+    {new : States} (gave : Fired kind (get_or s x 0) (get_or s y 0) (get_or s z 0) new) where
+  firing : Fires (rule_of kind x y z) s new.x new.y (counted kind new.z)
+  unfolding rule_of
+  firing =
+      fires_read input (counted kind (get_or s z 0)) new.x new.y (counted kind new.z)
+      (rule_state_z kind x y z input.lent.cells small)
+      (z_dropped_lem kind (look_states _ _ _ _ input small) gave.closure)
+
+  -- x is not both facts, so none is
+  module _ (apart : new.x ≡ 3 → ⊥) where
+    no_clash : IsSheet (three new.x new.y (counted kind new.z))
+    no_clash =
+        let sheet = look_states _ _ _ _ input small in
+        let others = clash_at_x kind (counted_sheet kind sheet) (z_dropped_lem kind sheet gave.closure) in
+        new_sheet firing apart (λ e. apart (others.0 e)) (λ e. apart (others.1 e))
+
+    -- the kind has z: its new state is the one that is stored
+    module _ (there : z_missing (rule_of kind x y z) ≡ false) where
+      z_counts : counted kind new.z ≡ new.z
+      unfolding rule_of
+      z_counts = rw there
+
+      firing_z : Fires (rule_of kind x y z) s new.x new.y new.z
+      firing_z = subst (λ (e : ℕ). Fires (rule_of kind x y z) s new.x new.y e) z_counts firing
+
+      sheet_z : IsSheet (three new.x new.y new.z)
+      sheet_z = subst (λ (e : ℕ). IsSheet (three new.x new.y e)) z_counts no_clash
 
 pub bounds-states-x : goal.bounds-states-x
 bounds-states-x c = look_x _ _ _ _ c.requires.step_input c.requires.z_bound
@@ -24,184 +54,55 @@ pub bounds-states-y : goal.bounds-states-y
 bounds-states-y c = look_y _ _ _ _ c.requires.step_input c.requires.z_bound
 
 pub fire-new-requires : goal.fire-new-requires
-fire-new-requires c =
-    let began = c in
-    look_states _ _ _ _ began.requires.step_input began.requires.z_bound
+fire-new-requires c = look_states _ _ _ _ c.requires.step_input c.requires.z_bound
 
 pub returns-then-c-eq-BOTH : goal.returns-then-c-eq-BOTH
-unfolding rule_of
-returns-then-c-eq-BOTH c = record { clash = step_clash ((let h : let new = c.fire-new.result in Fires ((rule_of (c).args.kind (c).args.x (c).args.y (c).args.z)) (((c).args.states.now)) new.x new.y ((counted (c).args.kind c.fire-new.result.z)) =
-        let began = c in
-    let new = c.fire-new.result in
-    let kind = began.args.kind in
-    let z = began.args.z in
-    fires_read began.requires.step_input (counted kind (get_or (began.args.states.now) z 0)) new.x new.y ((counted (c).args.kind c.fire-new.result.z))
-    (rule_state_z kind began.args.x began.args.y z began.requires.step_input.lent.cells began.requires.z_bound)
-    (z_dropped_lem kind (look_states _ _ _ _ began.requires.step_input began.requires.z_bound) c.fire-new.ensures.closure) in h)) 0 c.if-c-eq-BOTH.true; size = refl }
+returns-then-c-eq-BOTH c =
+    record {
+      clash = step_clash (firing c.args.kind c.args.x c.args.y c.args.z c.requires.step_input c.requires.z_bound c.fire-new.ensures) 0 c.if-c-eq-BOTH.true;
+      size = refl;
+    }
 
 pub settle-after_x-requires : goal.settle-after_x-requires
 unfolding rule_of
 settle-after_x-requires c =
-    let here = c in
-    settling_x (here).requires.step_input ((let h : let new = here.fire-new.result in Fires ((rule_of (here).args.kind (here).args.x (here).args.y (here).args.z)) (((here).args.states.now)) new.x new.y ((counted (here).args.kind here.fire-new.result.z)) =
-        let began = here in
-    let new = here.fire-new.result in
-    let kind = began.args.kind in
-    let z = began.args.z in
-    fires_read began.requires.step_input (counted kind (get_or (began.args.states.now) z 0)) new.x new.y ((counted (here).args.kind here.fire-new.result.z))
-    (rule_state_z kind began.args.x began.args.y z began.requires.step_input.lent.cells began.requires.z_bound)
-    (z_dropped_lem kind (look_states _ _ _ _ began.requires.step_input began.requires.z_bound) here.fire-new.ensures.closure) in h)) ((let h : let new = here.fire-new.result in IsSheet (three new.x new.y ((counted (here).args.kind here.fire-new.result.z))) =
-        let fired = here in
-    let began = fired in
-    let kind = began.args.kind in
-    let sheet = look_states _ _ _ _ began.requires.step_input began.requires.z_bound in
-    let others = clash_at_x kind (counted_sheet kind sheet) (z_dropped_lem kind sheet fired.fire-new.ensures.closure) in
-    new_sheet ((let h : let new = fired.fire-new.result in Fires ((rule_of (fired).args.kind (fired).args.x (fired).args.y (fired).args.z)) (((fired).args.states.now)) new.x new.y ((counted (fired).args.kind fired.fire-new.result.z)) =
-        let began = fired in
-    let new = fired.fire-new.result in
-    let kind = began.args.kind in
-    let z = began.args.z in
-    fires_read began.requires.step_input (counted kind (get_or (began.args.states.now) z 0)) new.x new.y ((counted (fired).args.kind fired.fire-new.result.z))
-    (rule_state_z kind began.args.x began.args.y z began.requires.step_input.lent.cells began.requires.z_bound)
-    (z_dropped_lem kind (look_states _ _ _ _ began.requires.step_input began.requires.z_bound) fired.fire-new.ensures.closure) in h)) here.if-c-eq-BOTH.false (λ e. here.if-c-eq-BOTH.false (others.0 e)) (λ e. here.if-c-eq-BOTH.false (others.1 e)) in h))
+    let input = c.requires.step_input in
+    settling_x input (firing c.args.kind c.args.x c.args.y c.args.z input c.requires.z_bound c.fire-new.ensures)
+    (no_clash c.args.kind c.args.x c.args.y c.args.z input c.requires.z_bound c.fire-new.ensures c.if-c-eq-BOTH.false)
 
 pub settle-after_y-requires : goal.settle-after_y-requires
 unfolding rule_of
 settle-after_y-requires c =
-    let first = c in
-    let here = first in
-    settling_y (here).requires.step_input ((let h : let new = here.fire-new.result in Fires ((rule_of (here).args.kind (here).args.x (here).args.y (here).args.z)) (((here).args.states.now)) new.x new.y ((counted (here).args.kind here.fire-new.result.z)) =
-        let began = here in
-    let new = here.fire-new.result in
-    let kind = began.args.kind in
-    let z = began.args.z in
-    fires_read began.requires.step_input (counted kind (get_or (began.args.states.now) z 0)) new.x new.y ((counted (here).args.kind here.fire-new.result.z))
-    (rule_state_z kind began.args.x began.args.y z began.requires.step_input.lent.cells began.requires.z_bound)
-    (z_dropped_lem kind (look_states _ _ _ _ began.requires.step_input began.requires.z_bound) here.fire-new.ensures.closure) in h)) ((let h : let new = here.fire-new.result in IsSheet (three new.x new.y ((counted (here).args.kind here.fire-new.result.z))) =
-        let fired = here in
-    let began = fired in
-    let kind = began.args.kind in
-    let sheet = look_states _ _ _ _ began.requires.step_input began.requires.z_bound in
-    let others = clash_at_x kind (counted_sheet kind sheet) (z_dropped_lem kind sheet fired.fire-new.ensures.closure) in
-    new_sheet ((let h : let new = fired.fire-new.result in Fires ((rule_of (fired).args.kind (fired).args.x (fired).args.y (fired).args.z)) (((fired).args.states.now)) new.x new.y ((counted (fired).args.kind fired.fire-new.result.z)) =
-        let began = fired in
-    let new = fired.fire-new.result in
-    let kind = began.args.kind in
-    let z = began.args.z in
-    fires_read began.requires.step_input (counted kind (get_or (began.args.states.now) z 0)) new.x new.y ((counted (fired).args.kind fired.fire-new.result.z))
-    (rule_state_z kind began.args.x began.args.y z began.requires.step_input.lent.cells began.requires.z_bound)
-    (z_dropped_lem kind (look_states _ _ _ _ began.requires.step_input began.requires.z_bound) fired.fire-new.ensures.closure) in h)) here.if-c-eq-BOTH.false (λ e. here.if-c-eq-BOTH.false (others.0 e)) (λ e. here.if-c-eq-BOTH.false (others.1 e)) in h)) first.settle-after_x.ensures
+    let input = c.requires.step_input in
+    settling_y input (firing c.args.kind c.args.x c.args.y c.args.z input c.requires.z_bound c.fire-new.ensures)
+    (no_clash c.args.kind c.args.x c.args.y c.args.z input c.requires.z_bound c.fire-new.ensures c.if-c-eq-BOTH.false) c.settle-after_x.ensures
 
 pub settle-requires : goal.settle-requires
 unfolding rule_of
 settle-requires c =
-    let then = c in
-    let asked = then in
-    settling_z ((((((asked)))))).requires.step_input ((let h : let fired = (((then))) in
-    let new = fired.fire-new.result in
-    Fires ((rule_of (fired).args.kind (fired).args.x (fired).args.y (fired).args.z)) (((fired).args.states.now)) new.x new.y new.z =
-        let fired = (((then))) in
-    let new = fired.fire-new.result in
-    subst (λ (e : ℕ). Fires ((rule_of (fired).args.kind (fired).args.x (fired).args.y (fired).args.z)) (((fired).args.states.now)) new.x new.y e) ((let h : let fired = (((then))) in (counted (fired).args.kind fired.fire-new.result.z) ≡ fired.fire-new.result.z =
-        rw ((let h : z_missing ((rule_of ((((((then)))))).args.kind ((((((then)))))).args.x ((((((then)))))).args.y ((((((then)))))).args.z)) ≡ false =
-        not-true _ (sym then.has_z.ensures ∙ then.if-has_z.true) in h)) in h)) ((let h : let new = fired.fire-new.result in Fires ((rule_of (fired).args.kind (fired).args.x (fired).args.y (fired).args.z)) (((fired).args.states.now)) new.x new.y ((counted (fired).args.kind fired.fire-new.result.z)) =
-        let (((((=))))) fired in
-    let new = fired.fire-new.result in
-    let kind = began.args.kind in
-    let z = began.args.z in
-    fires_read began.requires.step_input (counted kind (get_or (began.args.states.now) z 0)) new.x new.y ((counted (fired).args.kind fired.fire-new.result.z))
-    (rule_state_z kind began.args.x began.args.y z began.requires.step_input.lent.cells began.requires.z_bound)
-    (z_dropped_lem kind (look_states _ _ _ _ began.requires.step_input began.requires.z_bound) fired.fire-new.ensures.closure) in h)) in h)) ((let h : let new = (((then))).fire-new.result in IsSheet (three new.x new.y new.z) =
-        let here = ((then)) in
-    let new = here.fire-new.result in
-    subst (λ (e : ℕ). IsSheet (three new.x new.y e)) ((let h : let fired = (((then))) in (counted (fired).args.kind fired.fire-new.result.z) ≡ fired.fire-new.result.z =
-        rw ((let h : z_missing ((rule_of ((((((then)))))).args.kind ((((((then)))))).args.x ((((((then)))))).args.y ((((((then)))))).args.z)) ≡ false =
-        not-true _ (sym then.has_z.ensures ∙ then.if-has_z.true) in h)) in h)) ((let h : let new = here.fire-new.result in IsSheet (three new.x new.y ((counted (here).args.kind here.fire-new.result.z))) =
-        let fired = here in
-    let (((((=))))) fired in
-    let kind = began.args.kind in
-    let sheet = look_states _ _ _ _ began.requires.step_input began.requires.z_bound in
-    let others = clash_at_x kind (counted_sheet kind sheet) (z_dropped_lem kind sheet fired.fire-new.ensures.closure) in
-    new_sheet ((let h : let new = fired.fire-new.result in Fires ((rule_of (fired).args.kind (fired).args.x (fired).args.y (fired).args.z)) (((fired).args.states.now)) new.x new.y ((counted (fired).args.kind fired.fire-new.result.z)) =
-        let (((((=))))) fired in
-    let new = fired.fire-new.result in
-    let kind = began.args.kind in
-    let z = began.args.z in
-    fires_read began.requires.step_input (counted kind (get_or (began.args.states.now) z 0)) new.x new.y ((counted (fired).args.kind fired.fire-new.result.z))
-    (rule_state_z kind began.args.x began.args.y z began.requires.step_input.lent.cells began.requires.z_bound)
-    (z_dropped_lem kind (look_states _ _ _ _ began.requires.step_input began.requires.z_bound) fired.fire-new.ensures.closure) in h)) here.if-c-eq-BOTH.false (λ e. here.if-c-eq-BOTH.false (others.0 e)) (λ e. here.if-c-eq-BOTH.false (others.1 e)) in h)) in h)) (asked).settle-after_x.ensures asked.settle-after_y.ensures ((let h : let a = ((((((then)))))).args in ((rule_of ((((((then)))))).args.kind ((((((then)))))).args.x ((((((then)))))).args.y ((((((then)))))).args.z)).z ≡ a.z =
-        let a = ((((((then)))))).args in rule_z a.kind a.x a.y a.z ((let h : z_missing ((rule_of ((((((then)))))).args.kind ((((((then)))))).args.x ((((((then)))))).args.y ((((((then)))))).args.z)) ≡ false =
-        not-true _ (sym then.has_z.ensures ∙ then.if-has_z.true) in h)) in h))
-    ((let h : z_missing ((rule_of ((((((then)))))).args.kind ((((((then)))))).args.x ((((((then)))))).args.y ((((((then)))))).args.z)) ≡ false =
-        not-true _ (sym then.has_z.ensures ∙ then.if-has_z.true) in h))
+    let input = c.requires.step_input in
+    let apart = c.if-c-eq-BOTH.false in
+    let there : z_missing (rule_of c.args.kind c.args.x c.args.y c.args.z) ≡ false =
+    not-true _ (sym c.has_z.ensures ∙ c.if-has_z.true) in
+    settling_z input (firing_z c.args.kind c.args.x c.args.y c.args.z input c.requires.z_bound c.fire-new.ensures apart there)
+    (sheet_z c.args.kind c.args.x c.args.y c.args.z input c.requires.z_bound c.fire-new.ensures apart there) c.settle-after_x.ensures c.settle-after_y.ensures
+    (rule_z c.args.kind c.args.x c.args.y c.args.z there) there
 
 pub returns-then-has_z : goal.returns-then-has_z
 unfolding rule_of
 returns-then-has_z c =
-    let then = c in
-    let asked = then in
-    triple_fired ((((((asked)))))).requires.step_input ((let h : let fired = (((then))) in
-    let new = fired.fire-new.result in
-    Fires ((rule_of (fired).args.kind (fired).args.x (fired).args.y (fired).args.z)) (((fired).args.states.now)) new.x new.y new.z =
-        let fired = (((then))) in
-    let new = fired.fire-new.result in
-    subst (λ (e : ℕ). Fires ((rule_of (fired).args.kind (fired).args.x (fired).args.y (fired).args.z)) (((fired).args.states.now)) new.x new.y e) ((let h : let fired = (((then))) in (counted (fired).args.kind fired.fire-new.result.z) ≡ fired.fire-new.result.z =
-        rw ((let h : z_missing ((rule_of ((((((then)))))).args.kind ((((((then)))))).args.x ((((((then)))))).args.y ((((((then)))))).args.z)) ≡ false =
-        not-true _ (sym then.has_z.ensures ∙ then.if-has_z.true) in h)) in h)) ((let h : let new = fired.fire-new.result in Fires ((rule_of (fired).args.kind (fired).args.x (fired).args.y (fired).args.z)) (((fired).args.states.now)) new.x new.y ((counted (fired).args.kind fired.fire-new.result.z)) =
-        let (((((=))))) fired in
-    let new = fired.fire-new.result in
-    let kind = began.args.kind in
-    let z = began.args.z in
-    fires_read began.requires.step_input (counted kind (get_or (began.args.states.now) z 0)) new.x new.y ((counted (fired).args.kind fired.fire-new.result.z))
-    (rule_state_z kind began.args.x began.args.y z began.requires.step_input.lent.cells began.requires.z_bound)
-    (z_dropped_lem kind (look_states _ _ _ _ began.requires.step_input began.requires.z_bound) fired.fire-new.ensures.closure) in h)) in h)) ((let h : let new = (((then))).fire-new.result in IsSheet (three new.x new.y new.z) =
-        let here = ((then)) in
-    let new = here.fire-new.result in
-    subst (λ (e : ℕ). IsSheet (three new.x new.y e)) ((let h : let fired = (((then))) in (counted (fired).args.kind fired.fire-new.result.z) ≡ fired.fire-new.result.z =
-        rw ((let h : z_missing ((rule_of ((((((then)))))).args.kind ((((((then)))))).args.x ((((((then)))))).args.y ((((((then)))))).args.z)) ≡ false =
-        not-true _ (sym then.has_z.ensures ∙ then.if-has_z.true) in h)) in h)) ((let h : let new = here.fire-new.result in IsSheet (three new.x new.y ((counted (here).args.kind here.fire-new.result.z))) =
-        let fired = here in
-    let (((((=))))) fired in
-    let kind = began.args.kind in
-    let sheet = look_states _ _ _ _ began.requires.step_input began.requires.z_bound in
-    let others = clash_at_x kind (counted_sheet kind sheet) (z_dropped_lem kind sheet fired.fire-new.ensures.closure) in
-    new_sheet ((let h : let new = fired.fire-new.result in Fires ((rule_of (fired).args.kind (fired).args.x (fired).args.y (fired).args.z)) (((fired).args.states.now)) new.x new.y ((counted (fired).args.kind fired.fire-new.result.z)) =
-        let (((((=))))) fired in
-    let new = fired.fire-new.result in
-    let kind = began.args.kind in
-    let z = began.args.z in
-    fires_read began.requires.step_input (counted kind (get_or (began.args.states.now) z 0)) new.x new.y ((counted (fired).args.kind fired.fire-new.result.z))
-    (rule_state_z kind began.args.x began.args.y z began.requires.step_input.lent.cells began.requires.z_bound)
-    (z_dropped_lem kind (look_states _ _ _ _ began.requires.step_input began.requires.z_bound) fired.fire-new.ensures.closure) in h)) here.if-c-eq-BOTH.false (λ e. here.if-c-eq-BOTH.false (others.0 e)) (λ e. here.if-c-eq-BOTH.false (others.1 e)) in h)) in h)) (asked).settle-after_x.ensures asked.settle-after_y.ensures ((let h : let a = ((((((then)))))).args in ((rule_of ((((((then)))))).args.kind ((((((then)))))).args.x ((((((then)))))).args.y ((((((then)))))).args.z)).z ≡ a.z =
-        let a = ((((((then)))))).args in rule_z a.kind a.x a.y a.z ((let h : z_missing ((rule_of ((((((then)))))).args.kind ((((((then)))))).args.x ((((((then)))))).args.y ((((((then)))))).args.z)) ≡ false =
-        not-true _ (sym then.has_z.ensures ∙ then.if-has_z.true) in h)) in h))
-    ((let h : z_missing ((rule_of ((((((then)))))).args.kind ((((((then)))))).args.x ((((((then)))))).args.y ((((((then)))))).args.z)) ≡ false =
-        not-true _ (sym then.has_z.ensures ∙ then.if-has_z.true) in h)) c.settle.ensures
+    let input = c.requires.step_input in
+    let apart = c.if-c-eq-BOTH.false in
+    let there : z_missing (rule_of c.args.kind c.args.x c.args.y c.args.z) ≡ false =
+    not-true _ (sym c.has_z.ensures ∙ c.if-has_z.true) in
+    triple_fired input (firing_z c.args.kind c.args.x c.args.y c.args.z input c.requires.z_bound c.fire-new.ensures apart there)
+    (sheet_z c.args.kind c.args.x c.args.y c.args.z input c.requires.z_bound c.fire-new.ensures apart there) c.settle-after_x.ensures c.settle-after_y.ensures
+    (rule_z c.args.kind c.args.x c.args.y c.args.z there) there c.settle.ensures
 
 pub returns : goal.returns
 unfolding rule_of
 returns c =
-    let asked = c in
-    let here = ((asked)) in
-    pair_fired ((((((asked)))))).requires.step_input ((let h : let new = here.fire-new.result in Fires ((rule_of (here).args.kind (here).args.x (here).args.y (here).args.z)) (((here).args.states.now)) new.x new.y ((counted (here).args.kind here.fire-new.result.z)) =
-        let (((((=))))) here in
-    let new = here.fire-new.result in
-    let kind = began.args.kind in
-    let z = began.args.z in
-    fires_read began.requires.step_input (counted kind (get_or (began.args.states.now) z 0)) new.x new.y ((counted (here).args.kind here.fire-new.result.z))
-    (rule_state_z kind began.args.x began.args.y z began.requires.step_input.lent.cells began.requires.z_bound)
-    (z_dropped_lem kind (look_states _ _ _ _ began.requires.step_input began.requires.z_bound) here.fire-new.ensures.closure) in h)) ((let h : let new = here.fire-new.result in IsSheet (three new.x new.y ((counted (here).args.kind here.fire-new.result.z))) =
-        let fired = here in
-    let (((((=))))) fired in
-    let kind = began.args.kind in
-    let sheet = look_states _ _ _ _ began.requires.step_input began.requires.z_bound in
-    let others = clash_at_x kind (counted_sheet kind sheet) (z_dropped_lem kind sheet fired.fire-new.ensures.closure) in
-    new_sheet ((let h : let new = fired.fire-new.result in Fires ((rule_of (fired).args.kind (fired).args.x (fired).args.y (fired).args.z)) (((fired).args.states.now)) new.x new.y ((counted (fired).args.kind fired.fire-new.result.z)) =
-        let (((((=))))) fired in
-    let new = fired.fire-new.result in
-    let kind = began.args.kind in
-    let z = began.args.z in
-    fires_read began.requires.step_input (counted kind (get_or (began.args.states.now) z 0)) new.x new.y ((counted (fired).args.kind fired.fire-new.result.z))
-    (rule_state_z kind began.args.x began.args.y z began.requires.step_input.lent.cells began.requires.z_bound)
-    (z_dropped_lem kind (look_states _ _ _ _ began.requires.step_input began.requires.z_bound) fired.fire-new.ensures.closure) in h)) here.if-c-eq-BOTH.false (λ e. here.if-c-eq-BOTH.false (others.0 e)) (λ e. here.if-c-eq-BOTH.false (others.1 e)) in h)) (asked).settle-after_x.ensures asked.settle-after_y.ensures
-    (not-false _ (sym asked.has_z.ensures ∙ c.if-has_z.false))
+    let input = c.requires.step_input in
+    pair_fired input (firing c.args.kind c.args.x c.args.y c.args.z input c.requires.z_bound c.fire-new.ensures)
+    (no_clash c.args.kind c.args.x c.args.y c.args.z input c.requires.z_bound c.fire-new.ensures c.if-c-eq-BOTH.false) c.settle-after_x.ensures c.settle-after_y.ensures
+    (not-false _ (sym c.has_z.ensures ∙ c.if-has_z.false))
