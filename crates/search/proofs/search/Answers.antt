@@ -29,18 +29,20 @@ link-requires c =
 
 pub run_indexed-requires : goal.run_indexed-requires
 run_indexed-requires c =
-    let index = c in
-    let handed = (((index))).requires in
-    record { accepted = accepted_all handed.tables; packed = (index).pack-m.ensures; linked = index.link.ensures; cells = handed.cells }
+    record {
+      accepted = accepted_all c.requires.tables;
+      packed = c.pack-m.ensures;
+      linked = c.link.ensures;
+      cells = c.requires.cells;
+    }
 
 pub returns-then-run_indexed : goal.returns-then-run_indexed
 returns-then-run_indexed c =
-    let here = c in
-    let s = (((((here))))) in
-    let l = take s.args.n c.nothing.result.sheet.states in
-    with_found ((Wanted (rules_in s.args.maker.now s.args.depot.now) s.args.n s.args.sheet.states s.args.after s.args.given.now)) false c.nothing.result.found l (sym c.nothing.ensures)
-    (start_clash s.requires (((here))).pack-m.ensures.rules
-    (subst ((Rested ((packed_rules (((here))).pack-m.new.packed (((here))).pack-m.result)) ((((((here)))))).args.sheet.states (here.run_indexed.new.states))) c.if-run_indexed.true here.run_indexed.ensures) l)
+    let a = c.args in
+    let l = take a.n c.nothing.result.sheet.states in
+    with_found (Wanted (rules_in a.maker.now a.depot.now) a.n a.sheet.states a.after a.given.now) false c.nothing.result.found l
+    (sym c.nothing.ensures)
+    (start_clash c.requires c.pack-m.ensures.rules c.if-run_indexed.ensures l)
 
 -- box 0 gets the state that it has
 same_states : (t : List ℕ) → set t 0 (get_or t 0 0) ≡ t
@@ -48,24 +50,18 @@ same_states t = set-get_or t 0 0
 
 pub trial-requires : goal.trial-requires
 trial-requires c =
-    let rest = c in
-    let index = rest in
-    let pack = (index).pack-m.ensures in
-    rw (same_states (rest.run_indexed.new.states)) (
+    rw (same_states c.run_indexed.new.states) (
       record {
-        (packed_rules =.pack-m.new.packed =.pack-m.result) packed_own pack;
-        chains = index.link.ensures;
-        trial = start_trial ((((((rest)))))).requires pack.rules ((let h : (Rested ((packed_rules (((rest))).pack-m.new.packed (((rest))).pack-m.result)) ((((((rest)))))).args.sheet.states (rest.run_indexed.new.states)) false =
-        subst ((Rested ((packed_rules (((rest))).pack-m.new.packed (((rest))).pack-m.result)) ((((((rest)))))).args.sheet.states (rest.run_indexed.new.states))) rest.if-run_indexed.false rest.run_indexed.ensures in h));
-      },
-      refl,
-    )
+        trial_ready =
+            record {
+              rules = packed_own c.pack-m.ensures;
+              chains = c.link.ensures;
+              trial = start_trial c.requires c.pack-m.ensures.rules c.if-run_indexed.ensures;
+            };
+        queue_len = refl;
+      })
 
 pub returns : goal.returns
 returns c =
-    let rest = c in
-    let s = (((((rest))))) in
-    start_answer s.requires (((rest))).pack-m.ensures.rules ((let h : (Rested ((packed_rules (((rest))).pack-m.new.packed (((rest))).pack-m.result)) ((((((rest)))))).args.sheet.states (rest.run_indexed.new.states)) false =
-        subst ((Rested ((packed_rules (((rest))).pack-m.new.packed (((rest))).pack-m.result)) ((((((rest)))))).args.sheet.states (rest.run_indexed.new.states))) rest.if-run_indexed.false rest.run_indexed.ensures in h))
-    c.trial.result.found (take s.args.n c.trial.result.sheet.states)
-    (rw (same_states (rest.run_indexed.new.states)) at c.trial.ensures.answer_to)
+    start_answer c.requires c.pack-m.ensures.rules c.if-run_indexed.ensures c.trial.result.found
+    (take c.args.n c.trial.result.sheet.states) (rw (same_states c.run_indexed.new.states) at c.trial.ensures.answer_to)
