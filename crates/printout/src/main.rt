@@ -1,12 +1,13 @@
 // Prints the one-rule table: its entries in order, one decimal number a line.
 #![tactic(auto)]
+
 ghost use Rattle.std.specs.Prelude.{◌≡◌, ◌+◌, ◌≤◌, ◌<◌, length, take};
 ghost use Rattle.io.specs.Counts.{IsPrefixLen};
 ghost use Rattle.spec.specs.OneRule.{outcome};
 ghost use Rattle.text.specs.Putting.{Put};
 ghost use Rattle.printout.specs.Printed.{line_of, printed};
 
-use libc::STDOUT_FILENO;
+use std::io;
 
 // The entry that stands k-th: the kind counts most, then the states of x, y and z.
 fn kth(k: usize) -> u8
@@ -45,8 +46,8 @@ fn put_table(out: &mut [u8]) -> usize
     at
 }
 
-fn main() {
+fn main(rt: HostRuntime) -> io::Result<()> {
     let mut out = [0u8; 768];
     let n = put_table(&mut out);
-    io::write_all(STDOUT_FILENO, &out[..n]);
+    rt.write_all(&out[..n])
 }
