@@ -1,16 +1,29 @@
 // The listing program: reads the two tables and the order's sheet from the current directory, and writes their listing. What is
 // written is decided by `report::listing`; here is only what reads and writes.
 #![tactic(auto)]
+
 ghost use Rattle.std.specs.Prelude.{◌≡◌, length};
-ghost use Rattle.io.specs.Counts.{IsPrefixLen};
+ghost use Rattle.std.specs.Io.{ReadsAtMost};
 
-use libc::STDOUT_FILENO;
+use std::fmt;
+use std::fs::File;
+use std::io::{self, ErrorKind, Read};
+use std::process::ExitCode;
+use std::rt::Files;
 
-// What came of reading: the bytes read, or a failure that has been told.
+// What could not be read or written, and why.
 #[derive(Drop)]
-struct Got {
-    ok: bool,
-    bytes: usize,
+struct Failure {
+    what: &'static str,
+    error: io::Error,
+}
+
+impl fmt::Display for Failure {
+    fn fmt<W: fmt::Write>(&self, f: &mut fmt::Formatter<W>) -> fmt::Result {
+        let what = self.what;
+        let error = self.error;
+        write!(f, "{what}: {error}")
+    }
 }
 
 // A table of 1,025 records is one too many; a sheet of 257 boxes likewise. So more need not be read.
@@ -33,75 +46,53 @@ fn page() -> [u8; 17000]
 }
 
 // Reads until buf is full or the file ends.
-fn read_all(fd: i32, buf: &mut [u8]) -> Got
-    ensures { IsPrefixLen result.bytes buf.new }
+fn read_all(file: &mut impl Read, buf: &mut [u8]) -> io::Result<usize>
+    ensures { ReadsAtMost result buf.new }
 {
     let mut done: usize = 0;
     while done < buf.len() {
-        let got = libc::read(fd, &mut buf[done..]);
-        if got < 0 {
-            return Got {
-                ok: false,
-                bytes: 0,
-            };
-        }
-        let more = io::count(got, &buf[done..]);
+        let more = file.read(&mut buf[done..])?;
         if more == 0 {
             break;
         }
         done += more;
     }
-    Got {
-        ok: true,
-        bytes: done,
-    }
+    Ok(done)
 }
 
 // Reads the file of this name, as far as buf goes. A missing file is empty.
-fn load(name: &[u8], buf: &mut [u8]) -> Got
-    ensures { IsPrefixLen result.bytes buf.new }
+fn load(rt: &impl Files, name: &'static str, buf: &mut [u8]) -> Result<usize, Failure>
+    ensures { ReadsAtMost result buf.new }
 {
-    let fd = os::open_read(name);
-    if fd < 0 {
-        let missing = os::errno() == libc::ENOENT;
-        if !missing {
-            os::fail(name);
-        }
-        return Got {
-            ok: missing,
-            bytes: 0,
-        };
-    }
-    let got = read_all(fd, buf);
-    if !got.ok {
-        os::fail(name);
-    }
-    libc::close(fd);
-    got
+    let read = match File::open(rt, name) {
+        Ok(mut file) => read_all(&mut file, buf),
+        Err(error) if error.kind() == ErrorKind::NotFound => Ok(0),
+        Err(error) => Err(error),
+    };
+    read.map_err(|error| Failure { what: name, error })
 }
 
-fn main() {
+fn list(rt: &(impl Files + Print)) -> Result<(), Failure> {
     let mut makers = table();
-    let maker = load(b"maker.tab", &mut makers);
-    if !maker.ok {
-        return;
-    }
+    let m = load(rt, "maker.tab", &mut makers)?;
     let mut depots = table();
-    let depot = load(b"depot.tab", &mut depots);
-    if !depot.ok {
-        return;
-    }
+    let d = load(rt, "depot.tab", &mut depots)?;
     let mut order = sheet();
-    let boxes = load(b"order.sht", &mut order);
-    if !boxes.ok {
-        return;
-    }
-    let m = maker.bytes;
-    let d = depot.bytes;
-    let b = boxes.bytes;
+    let b = load(rt, "order.sht", &mut order)?;
     let mut out = page();
     let n = report::listing::listing(&makers[..m], &depots[..d], &order[..b], &mut out);
-    if !io::write_all(STDOUT_FILENO, &out[..n]) {
-        os::fail(b"standard output");
+    rt.write_all(&out[..n]).map_err(|error| Failure {
+        what: "standard output",
+        error,
+    })
+}
+
+fn main(rt: HostRuntime) -> ExitCode {
+    match list(&rt) {
+        Ok(()) => ExitCode::SUCCESS,
+        Err(failure) => {
+            let _ = eprintln!(rt; "{failure}");
+            ExitCode::FAILURE
+        }
     }
 }
