@@ -1,10 +1,28 @@
 // The probe: reads calls from standard input, one a line, and writes an answer a line. What is written is decided by `stream`;
 // here is only what reads and writes.
 #![tactic(auto)]
-ghost use Rattle.std.specs.Prelude.{◌≡◌, ◌≤◌, length};
+
+ghost use Rattle.std.specs.Prelude.{◌≡◌, ◌≤◌, length, IfOk};
 ghost use Rattle.stream.specs.Input.{RoomForLines};
 
-use libc::{STDIN_FILENO, STDOUT_FILENO};
+use std::fmt;
+use std::io::{self, Read};
+use std::process::ExitCode;
+
+// What could not be read or written, and why.
+#[derive(Drop)]
+struct Failure {
+    what: &'static str,
+    error: io::Error,
+}
+
+impl fmt::Display for Failure {
+    fn fmt<W: fmt::Write>(&self, f: &mut fmt::Formatter<W>) -> fmt::Result {
+        let what = self.what;
+        let error = self.error;
+        write!(f, "{what}: {error}")
+    }
+}
 
 // What is at hand is the first `size` bytes of the input's buffer; `skipping` is what the last turn said of them. There are more turns
 // only while `going`.
@@ -34,60 +52,71 @@ fn stop() -> State
     }
 }
 
-fn write(text: &[u8]) -> bool {
-    let ok = io::write_all(STDOUT_FILENO, text);
-    if !ok {
-        os::fail(b"standard output");
-    }
-    ok
+fn write(rt: &impl Print, text: &[u8]) -> Result<(), Failure> {
+    rt.write_all(text).map_err(|error| Failure {
+        what: "standard output",
+        error,
+    })
 }
 
 // Reads more, behind what is at left. The input ends where there is no more; a turn that waits leaves room for some.
-fn read_more(input: &mut [u8], size: usize, skipping: bool) -> State
+fn read_more(
+    source: &mut impl Read,
+    input: &mut [u8],
+    size: usize,
+    skipping: bool,
+) -> Result<State, Failure>
     requires { size ≤ length input.old }
-    ensures { result.size ≤ length input.new }
+    ensures { IfOk result (λ state. state.size ≤ length input.new) }
 {
-    let got = libc::read(STDIN_FILENO, &mut input[size..]);
-    if got < 0 {
-        os::fail(b"standard input");
-        return stop();
-    }
-    let more = io::count(got, &input[size..]);
-    State {
+    let more = source.read(&mut input[size..]).map_err(|error| Failure {
+        what: "standard input",
+        error,
+    })?;
+    Ok(State {
         size: size + more,
         skipping,
         ended: more == 0,
         going: true,
-    }
+    })
 }
 
-fn turn(state: State, input: &mut [u8], text: &mut [u8]) -> State
+fn turn(
+    rt: &impl Print,
+    source: &mut impl Read,
+    state: State,
+    input: &mut [u8],
+    text: &mut [u8],
+) -> Result<State, Failure>
     requires room_for_lines { RoomForLines text.old }
     requires size_in_bounds { state.size ≤ length input.old }
-    ensures { result.size ≤ length input.new }
+    ensures { IfOk result (λ state. state.size ≤ length input.new) }
 {
     let ended = state.ended;
     let left = stream::turn(input, state.size, state.skipping, ended, text);
     let at = left.at;
-    if !write(&text[0..at]) {
-        return stop();
-    }
+    write(rt, &text[0..at])?;
     if !left.waits {
-        return State {
+        return Ok(State {
             size: left.size,
             skipping: left.skipping,
             ended,
             going: true,
-        };
+        });
     }
     if ended {
-        return stop();
+        return Ok(stop());
     }
-    read_more(input, left.size, left.skipping)
+    read_more(source, input, left.size, left.skipping)
 }
 
-// A proved loop has to end, and nothing says that the input does. So the turns are counted down, from more than any run makes.
-fn turns(input: &mut [u8], text: &mut [u8])
+// A proved loop has to end, and nothing says that the input does. So the turns are counted, up to more than any run makes.
+fn turns(
+    rt: &impl Print,
+    source: &mut impl Read,
+    input: &mut [u8],
+    text: &mut [u8],
+) -> Result<(), Failure>
     requires { RoomForLines text.old }
 {
     let mut state = State {
@@ -96,18 +125,24 @@ fn turns(input: &mut [u8], text: &mut [u8])
         ended: false,
         going: true,
     };
-    let mut left = u64::MAX;
-    while left > 0 {
-        state = turn(state, input, text);
+    for _ in 0..u64::MAX {
+        state = turn(rt, source, state, input, text)?;
         if !state.going {
-            return;
+            break;
         }
-        left -= 1;
     }
+    Ok(())
 }
 
-fn main() {
+fn main(rt: HostRuntime) -> ExitCode {
+    let mut source = rt.stdin();
     let mut input = page();
     let mut text = page();
-    turns(&mut input, &mut text);
+    match turns(&rt, &mut source, &mut input, &mut text) {
+        Ok(()) => ExitCode::SUCCESS,
+        Err(failure) => {
+            let _ = eprintln!(rt; "{failure}");
+            ExitCode::FAILURE
+        }
+    }
 }
