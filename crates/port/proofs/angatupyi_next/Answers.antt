@@ -1,0 +1,11 @@
+-- `port::angatupyi_next` meets its contract: Next's answer, as its numbers, and what Next writes.
+-- Assumes nothing.
+use Rattle.lists.specs.Answer.{handed_numbers}
+use Rattle.port.proofs.Answered.{does_told}
+use borrow.Author.Rules.{rules}
+use Rattle.port.proofs.angatupyi_next.Goals as goal
+
+pub returns : goal.returns
+returns c =
+    let asked = c in
+    does_told handed_numbers c.numbers-said.ensures asked.next.ensures
