@@ -22,7 +22,7 @@ put_buffer-requires c =
     let does = words in
     let copied = does in
     let start = copied in (
-      lent_within copied.copy_part-n.new.room does.fill-answer.new.out _ copied.copy_part-n.ensures.within does.fill-answer.auto.1.1.1.0,
+      lent_within copied.copy_part-n.new.room does.fill-answer.new.out _ copied.copy_part-n.ensures.within does.fill-answer.auto.out,
       omega (arith, words.put_counted-next.ensures.short, room_length words.put_counted-next.ensures, copied.copy_part-n.ensures.below, start.requires.in_parts.room),
     )
 
@@ -37,7 +37,7 @@ returns c =
     let promise =
     rw (shown.part.ensures, shown.part-2.ensures, shown.part-3.ensures, copied.copy_part-n.ensures.copied) at does.fill-answer.ensures
     in
-    put_lent copied.copy_part-n.new.room does.fill-answer.new.out _ copied.copy_part-n.ensures.within does.fill-answer.auto.1.1.1.0 _ _
+    put_lent copied.copy_part-n.new.room does.fill-answer.new.out _ copied.copy_part-n.ensures.within does.fill-answer.auto.out _ _
     words.put_counted-next.ensures put.put_buffer.ensures
     (filled_words _ (filled_says does.fill-answer.result) words.numbers.ensures ∙ ap (words_of (field "filled ")) promise.says)
     promise.writes copied.copy_part-n.ensures.below

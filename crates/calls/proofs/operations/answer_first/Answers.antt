@@ -22,7 +22,7 @@ put_buffer-requires c =
     let does = words in
     let copied = does in
     let start = copied in (
-      lent_within copied.copy_part-n.new.room does.first-answer.new.out _ copied.copy_part-n.ensures.within does.first-answer.auto.1.1.1.0,
+      lent_within copied.copy_part-n.new.room does.first-answer.new.out _ copied.copy_part-n.ensures.within does.first-answer.auto.out,
       omega (arith, words.put_done-next.ensures.short, room_length words.put_done-next.ensures, copied.copy_part-n.ensures.below, start.requires.in_parts.room),
     )
 
@@ -38,7 +38,7 @@ returns c =
     rw (shown.part.ensures, shown.part-2.ensures, shown.part-3.ensures, copied.copy_part-n.ensures.copied) at
     does.first-answer.ensures
     in
-    put_lent copied.copy_part-n.new.room does.first-answer.new.out _ copied.copy_part-n.ensures.within does.first-answer.auto.1.1.1.0 _ _
+    put_lent copied.copy_part-n.new.room does.first-answer.new.out _ copied.copy_part-n.ensures.within does.first-answer.auto.out _ _
     words.put_done-next.ensures put.put_buffer.ensures
     (listed_words _ (listed_says does.first-answer.result) words.numbers.ensures ∙ ap (words_of handed_words) promise.says)
     promise.writes copied.copy_part-n.ensures.below

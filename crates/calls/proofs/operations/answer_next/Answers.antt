@@ -31,7 +31,7 @@ put_buffer-requires c =
     let copied = does in
     let start = copied in (
       lent_within copied.copy_part-n.new.room does.next-answer.new.out _ copied.copy_part-n.ensures.within
-          does.next-answer.auto.1.1.1.1.0,
+          does.next-answer.auto.out,
       omega (arith, words.put_done-next.ensures.short, room_length words.put_done-next.ensures, copied.copy_part-n.ensures.below, start.requires.in_parts.room),
     )
 
@@ -39,8 +39,8 @@ pub shape_of-out : goal.shape_of-out
 shape_of-out c =
     let does = c in
     let copied = does in
-    length_front copied.copy_part-n.new.room does.next-answer.new.out copied.copy_part-n.result does.next-answer.auto.1.1.1.1.0 ∙
-    copied.copy_part-n.auto.1.1.1.0
+    length_front copied.copy_part-n.new.room does.next-answer.new.out copied.copy_part-n.result does.next-answer.auto.out ∙
+    copied.copy_part-n.auto.room
 
 pub returns : goal.returns
 returns c =
@@ -58,7 +58,7 @@ returns c =
       copied.copy_part-n.ensures.copied,
     ) at does.next-answer.ensures
     in
-    put_lent copied.copy_part-n.new.room does.next-answer.new.out _ copied.copy_part-n.ensures.within does.next-answer.auto.1.1.1.1.0
+    put_lent copied.copy_part-n.new.room does.next-answer.new.out _ copied.copy_part-n.ensures.within does.next-answer.auto.out
     _ _
     words.put_done-next.ensures put.put_buffer.ensures
     (listed_words _ (listed_says does.next-answer.result) words.numbers.ensures ∙ ap (words_of handed_words) promise.says)

@@ -10,7 +10,7 @@ pub returns-then-said-eq-REFUSED : goal.returns-then-said-eq-REFUSED
 returns-then-said-eq-REFUSED c =
     let start = c in
     rw (eq-eqb start.args.said.code 1 c.if-said-eq-REFUSED.true)
-    (room_within 80 (omega arith) c.Put-refused.ensures)
+    (room_within 80 (omega arith) c.put_refused.ensures)
 
 pub returns : goal.returns
 returns c =
