@@ -9,4 +9,4 @@ returns c =
     let start = c in
     let first = c.first in
     first_at start.args.maker.now start.args.depot.now start.args.sheet.now start.args.kit.now start.requires
-    first.result first.new.1.1.1.0 c.is_list.result c.is_list.ensures first.ensures
+    first.result first.new.out c.is_list.result c.is_list.ensures first.ensures

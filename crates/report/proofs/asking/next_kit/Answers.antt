@@ -13,9 +13,9 @@ returns c =
     let start = c in
     let next = c.next in
     next_at start.args.maker.now start.args.depot.now start.args.sheet.now start.args.kit.now start.requires.listable
-    next.result next.new.1.1.1.1.0 c.is_list.result c.is_list.ensures start.args.kit.now start.requires.full
+    next.result next.new.out c.is_list.result c.is_list.ensures start.args.kit.now start.requires.full
     (subst
     (λ (given : List ℕ). NextDoes start.args.maker.now start.args.depot.now start.args.sheet.now given start.args.kit.now next.result
-    next.new.1.1.1.1.0)
+    next.new.out)
     c.store.ensures
     next.ensures)

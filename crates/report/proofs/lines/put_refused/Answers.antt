@@ -11,4 +11,4 @@ unfolding refused_line
 returns c =
     let line_feed = c in
     let words = line_feed in
-    room_then words.Put-refused.ensures (room_of 1 line_feed.put_byte.ensures (omega arith))
+    room_then words.put_refused-next.ensures (room_of 1 line_feed.put_byte.ensures (omega arith))

@@ -19,7 +19,7 @@ first_kit-found-requires c = c.requires.listable
 pub loop-k-init : goal.loop-k-init
 loop-k-init c =
     let start = c in
-    (showing_start c.first_kit-found.ensures, c.first_kit-found.auto.1.1.1.0 ∙ start.requires.listable.size, start.requires.given_len)
+    (showing_start c.first_kit-found.ensures, c.first_kit-found.auto.kit ∙ start.requires.listable.size, start.requires.given_len)
 
 pub put_end-requires : goal.put_end-requires
 put_end-requires c =
@@ -71,8 +71,8 @@ loop-k-preserved c =
           (passed_boxes start.args.maker.now start.args.depot.now start.args.sheet.now start.requires.listable.passes) (omega arith)
           c.put_list-at.ensures
           c.next_kit-found.ensures,
-      c.next_kit-found.auto.1.1.1.1.0 ∙ so.1,
-      c.next_kit-found.auto.1.1.1.0 ∙ so.2,
+      c.next_kit-found.auto.kit ∙ so.1,
+      c.next_kit-found.auto.given ∙ so.2,
     )
 
 pub put_end-requires-then-not-found-2 : goal.put_end-requires-then-not-found-2
