@@ -52,7 +52,7 @@ module _ (maker depot sheet : List ℕ) (known : AcceptedSheet (length sheet) ma
       record {
         size = grown.size;
         is_out = λ b. state_fact b false;
-        is_in_lem = λ b. state_fact b true;
+        is_in = λ b. state_fact b true;
         is_open = λ b. (
           λ e. (λ h. none_open codes b e false ((exact b false).1 h), λ h. none_open codes b e true ((exact b true).1 h)),
           λ h. open_none codes b (sheet_codes codes grown.sheet) (neither b h),

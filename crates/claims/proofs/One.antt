@@ -3,19 +3,16 @@
 use mathlib.Core.Path.{◌≡◌, sym, ap}
 use mathlib.Core.Bool.{Bool, true, false, cond}
 use mathlib.Core.List.{List, [], ◌∷◌}
-use Prim.Native.Nat.{ℕ, ◌*◌, ◌<◌}
+use Prim.Native.Nat.{ℕ, ◌<◌}
 use native.Mathlib.Omega.{arith}
 use lib.ListN.{length}
-use Rattle.spec.specs.Refusals.{Refusal, number_of, Said, refused, answered, passed, Check, judge, table_checks, sheet_checks, order_checks, next_checks}
+use Rattle.spec.specs.Refusals.{Refusal, number_of, Said, refused, answered, Check, judge, table_checks, sheet_checks, order_checks, next_checks}
 use Rattle.spec.specs.Refusals.{boxes_check, maker_check, depot_check, count_check, record_check, sheet_check, given_check, out_check, list_check}
 use Rattle.spec.specs.Fits.{part_for, test_checks, test_judges, test_says, shows_part}
 use Rattle.spec.specs.Fill.{closure_of, boxes_filled, clash_check, broken_check, fill_judges, fill_says}
 use Rattle.spec.specs.Kits.{none_check, handed_out, hands_out, kits, kits_after, first_says, next_says}
 use Rattle.spec.proofs.Judge.{refused_answered}
 use Rattle.spec.proofs.Kept.{fill_kept, first_kept, next_kept}
-use Rattle.whylists.specs.Ours.{ours}
-use Rattle.whylists.specs.Says.{why_checks, why_judges, why_says, length_check, lines_check, why_check_judges, why_check_says}
-use Rattle.whylists.proofs.Kept.{why_kept}
 use Rattle.claims.specs.Demands.{empty_part, DemandOne}
 use Rattle.claims.proofs.Refusing.{of_form, EachOfForm, each_append, AfterForm, refuses_by}
 
@@ -32,7 +29,7 @@ unfolding list_check
 test_numbers maker depot l =
     each_append (table_checks (length l) maker depot) (list_check l ∷ []) (table_numbers (length l) maker depot) (of_form (list_check l) tt, tt)
 
-sheet_numbers : (maker depot sheet : List ℕ) → EachOfForm (sheet_checks maker depot sheet)
+pub sheet_numbers : (maker depot sheet : List ℕ) → EachOfForm (sheet_checks maker depot sheet)
 unfolding sheet_check
 sheet_numbers maker depot sheet =
     each_append (table_checks (length sheet) maker depot) (sheet_check sheet ∷ [])
@@ -46,13 +43,6 @@ order_numbers maker depot sheet out =
     (sheet_numbers maker depot sheet)
     (of_form (out_check (length sheet) out) tt, tt)
 
-why_numbers : (maker depot sheet out : List ℕ) → EachOfForm (why_checks maker depot sheet out)
-unfolding out_check
-why_numbers maker depot sheet out =
-    each_append (sheet_checks maker depot sheet) (out_check (8 * length sheet) out ∷ [])
-    (sheet_numbers maker depot sheet)
-    (of_form (out_check (8 * length sheet) out) tt, tt)
-
 pub next_numbers : (maker depot sheet given out : List ℕ) → EachOfForm (next_checks maker depot sheet given out)
 unfolding given_check out_check list_check
 next_numbers maker depot sheet given out =
@@ -61,17 +51,17 @@ next_numbers maker depot sheet given out =
     (of_form (given_check (length sheet) given) tt, (of_form (out_check (length sheet) out) tt, (of_form (list_check given) tt, tt)))
 
 -- one more check before it, whose number is none of form
-after_check : {A : Type 0} (c : Check) → 6 < number_of c.why → (rest : Said A) → AfterForm rest → AfterForm (judge (c ∷ []) rest)
+pub after_check : {A : Type 0} (c : Check) → 6 < number_of c.why → (rest : Said A) → AfterForm rest → AfterForm (judge (c ∷ []) rest)
 after_check c large rest h why small = go c.when
   where
     go : (t : Bool) → cond t (refused c.why) rest ≡ refused why → ⊥
     go true e = let same : c.why ≡ why = cc in omega (arith, ap number_of same)
     go false e = h why small e
 
-after_answer : {A : Type 0} (answer : A) → AfterForm (answered answer)
+pub after_answer : {A : Type 0} (answer : A) → AfterForm (answered answer)
 after_answer answer why small e = refused_answered (sym e)
 
--- what comes after them is an answer, or 7 to 11
+-- what comes after them is an answer, or 7, 8 or 9
 test_after : (maker depot l : List ℕ) → AfterForm (test_judges maker depot l)
 unfolding test_judges
 test_after maker depot l = after_answer _
@@ -92,23 +82,12 @@ hands_after : (ls : List (List ℕ)) → AfterForm (hands_out ls)
 unfolding none_check
 hands_after ls = after_check (none_check ls) (omega arith) handed_out (after_answer tt)
 
-why_after : (maker depot sheet : List ℕ) → AfterForm (why_judges maker depot sheet)
-unfolding why_judges clash_check
-why_after maker depot sheet =
-    after_check (clash_check (closure_of maker depot sheet)) (omega arith) (answered (length (ours maker depot sheet))) (after_answer (length (ours maker depot sheet)))
-
-why_check_after : (maker depot sheet l : List ℕ) → AfterForm (why_check_judges maker depot sheet l)
-unfolding why_check_judges length_check lines_check
-why_check_after maker depot sheet l =
-    after_check (length_check l) (omega arith) (judge (lines_check maker depot sheet l ∷ []) passed)
-    (after_check (lines_check maker depot sheet l) (omega arith) passed (after_answer tt))
-
 shows_nothing : (maker depot l : List ℕ) (why : Refusal) → test_says maker depot l ≡ refused why → shows_part maker depot l ≡ empty_part
 unfolding shows_part
 shows_nothing maker depot l why e = ap (part_for maker) e
 
 pub demand_one : (maker depot sheet l out : List ℕ) → DemandOne maker depot sheet l out
-unfolding test_says fill_says first_says next_says why_says why_check_says
+unfolding test_says fill_says first_says next_says
 demand_one maker depot sheet l out =
     record {
       test = refuses_by (test_checks maker depot l) (test_judges maker depot l) (test_numbers maker depot l) (test_after maker depot l);
@@ -121,15 +100,8 @@ demand_one maker depot sheet l out =
       next =
           refuses_by (next_checks maker depot sheet l out) (hands_out (kits_after maker depot sheet l))
           (next_numbers maker depot sheet l out) (hands_after (kits_after maker depot sheet l));
-      why =
-          refuses_by (why_checks maker depot sheet out) (why_judges maker depot sheet)
-          (why_numbers maker depot sheet out) (why_after maker depot sheet);
-      why_check =
-          refuses_by (sheet_checks maker depot sheet) (why_check_judges maker depot sheet l)
-          (sheet_numbers maker depot sheet) (why_check_after maker depot sheet l);
       show = shows_nothing maker depot l;
       fill_leaves = fill_kept maker depot sheet out;
       first_leaves = first_kept maker depot sheet out;
       next_leaves = λ why. next_kept maker depot sheet out why l;
-      why_leaves = λ why. why_kept maker depot sheet out why;
     }

@@ -1,7 +1,6 @@
--- The three demands, each as one record, of the functions that the promises of the operations cite. This page is the first to read: a
--- field's comment is the sentence, and its type says it in the words of `spec`, of `kits`' Kit and Runs and of `whylists`' Says. What
--- a request adds beside them has a page of its own: Why.
--- They hold of all tables, sheets and lists: `demand-one`, `demand-two`, `demand-three` of the crate's proofs.
+-- The three demands, each as one record, of the functions that the promises of Test, Show, Fill, First and Next cite. This page is
+-- the first to read: a field's comment is the sentence, and its type says it in the words of `spec` and of `kits`' Kit and Runs.
+-- They hold of all tables, sheets and lists: `demand_one`, `demand_two`, `demand_three` of the crate's proofs.
 -- That an operation reads inside what it is lent, and ends, is proved of its code, and none of them has a `requires`.
 -- Assumes nothing.
 use Rattle.std.specs.Prelude.{◌≡◌, ◌↔◌, Bool, true, false, ℕ, ◌<◌, length, get_or}
@@ -16,7 +15,6 @@ use Rattle.spec.specs.Fill.{boxes_filled, fill_says, fill_writes}
 use Rattle.spec.specs.Kits.{before, kits, first_says, first_writes, next_says, next_writes}
 use Rattle.kits.specs.Kit.{IsFull, Kit}
 use Rattle.kits.specs.Runs.{Asked}
-use Rattle.whylists.specs.Says.{why_checks, why_says, why_writes, why_check_says}
 
 -- of checks in their order, the first that applies
 pub data FirstApplies : List Check → Check → Type 0 where
@@ -49,8 +47,7 @@ abbrev pub empty_part : Part
 empty_part = record { depots = false; start = 0; size = 0 }
 
 -- DEMAND 1. Every public operation takes any tables, sheet and lists, and refuses bad ones by a number and a place (Show: by an
--- empty part). A refusal leaves every buffer lent for writing unchanged. The list `l` is Test's, the one given to Next, and the one
--- that the checker of why-lists is given.
+-- empty part). A refusal leaves every buffer lent for writing unchanged. The list `l` is Test's, and the one given to Next.
 pub record DemandOne (maker depot sheet l out : List ℕ) : Type 0 where
   -- Test refuses bad tables and a bad list, by 1, 2, 3 and 6
   pub test : RefusesBy (test_checks maker depot l) (test_says maker depot l)
@@ -59,17 +56,12 @@ pub record DemandOne (maker depot sheet l out : List ℕ) : Type 0 where
   pub first : RefusesBy (order_checks maker depot sheet out) (first_says maker depot sheet out)
   -- Next besides a bad given list, by 1 to 6
   pub next : RefusesBy (next_checks maker depot sheet l out) (next_says maker depot sheet l out)
-  -- the maker of why-lists refuses bad tables, a bad sheet and a buffer that isn't eight bytes a box, by 1 to 5
-  pub why : RefusesBy (why_checks maker depot sheet out) (why_says maker depot sheet out)
-  -- and their checker bad tables and a bad sheet, by 1 to 4
-  pub why_check : RefusesBy (sheet_checks maker depot sheet) (why_check_says maker depot sheet l)
   -- where Test refuses, Show gives the empty part at the start of the maker's table
   pub show : (why : Refusal) → test_says maker depot l ≡ refused why → shows_part maker depot l ≡ empty_part
-  -- a refusal of Fill, First, Next or the maker, by whatever number, leaves every byte of the out buffer as it was
+  -- a refusal of Fill, First or Next, by whatever number, leaves every byte of the out buffer as it was
   pub fill_leaves : Unchanged (fill_says maker depot sheet out) (fill_writes maker depot sheet out) out
   pub first_leaves : Unchanged (first_says maker depot sheet out) (first_writes maker depot sheet out) out
   pub next_leaves : Unchanged (next_says maker depot sheet l out) (next_writes maker depot sheet l out) out
-  pub why_leaves : Unchanged (why_says maker depot sheet out) (why_writes maker depot sheet out) out
 
 -- the facts that the twenty rules derive from the sheet, in however many steps
 abbrev pub Derived : (maker depot sheet : List ℕ) → Facts
@@ -85,7 +77,7 @@ pub record IsFilled (maker depot sheet w : List ℕ) : Type 0 where
   pub size : length w ≡ length sheet
   -- a box is out exactly when "out" can be derived, and in exactly when "in" can
   pub is_out : (b : ℕ) → (get_or w b 2 ≡ 0) ↔ Derived maker depot sheet b false
-  pub is_in_lem : (b : ℕ) → (get_or w b 2 ≡ 1) ↔ Derived maker depot sheet b true
+  pub is_in : (b : ℕ) → (get_or w b 2 ≡ 1) ↔ Derived maker depot sheet b true
   -- all other boxes stay: open where neither can, and as it was where it was settled
   pub is_open : (b : ℕ) → (get_or w b 2 ≡ 2) ↔ ((Derived maker depot sheet b false → ⊥) × (Derived maker depot sheet b true → ⊥))
   pub kept : (b : ℕ) → (get_or sheet b 2 ≡ 2 → ⊥) → get_or w b 2 ≡ get_or sheet b 2

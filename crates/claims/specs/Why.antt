@@ -1,6 +1,5 @@
 -- Request 2026-01, why-lists, as one record, of the functions that the promises of the maker and the checker cite. A field's comment is
--- the sentence, and its type says it. It holds of all tables, sheets, lists and buffers: `why-lists` of the crate's proofs. What the two
--- refuse by 1 to 5, and that a refusal writes nothing, stands in Demand 1.
+-- the sentence, and its type says it. It holds of all tables, sheets, lists and buffers: `why_lists` of the crate's proofs.
 -- Assumes nothing.
 use Rattle.std.specs.Prelude.{◌≡◌, ◌↔◌, Bool, true, false, ℕ, ◌*◌, ◌%◌, ◌≤◌, ◌<◌, T, length, get_or, take, drop}
 use mathlib.Core.List.{List, Memᴰ}
@@ -12,7 +11,7 @@ use Rattle.spec.specs.Refusals.{reason, refused, answered, passed, sheet_checks,
 use Rattle.spec.specs.Fill.{fill_says, fill_writes}
 use Rattle.whylists.specs.Lines.{Line, says_in, line_at, line_count, right_after, right}
 use Rattle.whylists.specs.Says.{why_checks, why_says, why_writes, why_check_says}
-use Rattle.claims.specs.Demands.{InForm, Derived}
+use Rattle.claims.specs.Demands.{InForm, RefusesBy, Unchanged, Derived}
 
 -- the facts that stand before line k: the sheet's settled boxes, and what the lines above say
 pub data Before (sheet l : List ℕ) (k : ℕ) : ℕ → Bool → Type 0 where
@@ -95,6 +94,12 @@ pub record Explains (maker depot sheet out : List ℕ) (count : ℕ) : Type 0 wh
 
 -- 2026-01. Tell the fitter why. The list `l` is the checker's, and `out` the maker's buffer.
 pub record WhyLists (maker depot sheet l out : List ℕ) : Type 0 where
+  -- the maker refuses bad tables, a bad sheet and a buffer that isn't eight bytes a box, by 1 to 5
+  pub why : RefusesBy (why_checks maker depot sheet out) (why_says maker depot sheet out)
+  -- and the checker bad tables and a bad sheet, by 1 to 4
+  pub why_check : RefusesBy (sheet_checks maker depot sheet) (why_check_says maker depot sheet l)
+  -- a refusal of the maker, by whatever number, leaves every byte of its buffer as it was
+  pub why_leaves : Unchanged (why_says maker depot sheet out) (why_writes maker depot sheet out) out
   -- a line after right ones is right exactly when the request's words say so
   pub words : (k : ℕ) → ((j : ℕ) → j < k → right maker depot sheet l j ≡ true) → (a : Line) →
       (right_after maker depot sheet l k a ≡ true) ↔ RightLine maker depot sheet l k a

@@ -1,4 +1,4 @@
--- `fullLists n` writes down the full lists of n boxes, in order.
+-- `full_lists n` writes down the full lists of n boxes, in order.
 -- Assumes nothing.
 use mathlib.Core.Path.{◌≡◌, refl, sym, ap}
 use mathlib.Core.Logic.{⊎_elim}

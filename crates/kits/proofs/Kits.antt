@@ -1,4 +1,4 @@
--- `kits` writes down the kits of a sheet in order, and `kitsAfter` those strictly after the given list.
+-- `kits` writes down the kits of a sheet in order, and `kits_after` those strictly after the given list.
 -- Assumes nothing.
 use mathlib.Core.Path.{◌≡◌}
 use mathlib.Core.Logic.{◌⊎◌, inl, inr}

@@ -12,4 +12,4 @@ pub record Coded (kind a b c : ℕ) : Type 0 where
   pub last_kind : kind ≤ 4
   pub state_x : a < 4
   pub state_y : b < 4
-  pub state_z_lem : c < 4
+  pub state_z : c < 4

@@ -1,4 +1,4 @@
--- A record of the two tables taken as one lies whole in one of them: `recordPart` says in which, and where.
+-- A record of the two tables taken as one lies whole in one of them: `record_part` says in which, and where.
 -- Assumes nothing.
 use mathlib.Core.Path.{◌≡◌, refl, ap, ◌∙◌}
 use mathlib.Core.Bool.{Bool, true, false, cond}

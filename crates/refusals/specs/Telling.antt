@@ -1,6 +1,6 @@
 -- How a refusal, and any answer, is told: a refusal of form by the paper's number and place; an answer as three numbers; a refusal in
 -- words. The three numbers are 0 where the operation has done what it was asked, 1 where it is refused, 2 where a record is broken; then
--- the values, and 0 where there is none. No proof says how many they are: it goes by `inOrder` and `numbersFrom`.
+-- the values, and 0 where there is none. No proof says how many they are: it goes by `in_order` and `numbers_from`.
 -- Assumes nothing.
 use Rattle.std.specs.Prelude.{List, [], ◌∷◌, ◌++◌, ℕ, get_or}
 use Rattle.spec.specs.Refusals.{Refusal as Numbered, reason, number_of, place_of, Said, refused, answered}

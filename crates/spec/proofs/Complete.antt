@@ -26,10 +26,10 @@ use Rattle.spec.proofs.RulesFor.{rule_listed}
 pub minimal_listed : (C : Constraint) (r : Rule) → T (minimal_valid C r) ↔ Memᴰ r (minimal_rules C)
 unfolding minimal_rules minimal_valid
 minimal_listed C r =
-    (λ t. those_member (minimal_valid C) ((rule_listed C r).0 (is_rule_lem t)) t, λ m. (member_those (minimal_valid C) (rules_for C) m).1)
+    (λ t. those_member (minimal_valid C) ((rule_listed C r).0 (is_rule t)) t, λ m. (member_those (minimal_valid C) (rules_for C) m).1)
   where
-    is_rule_lem : T (rule_for C r && valid C r && minimal C r) → T (rule_for C r)
-    is_rule_lem t = both_left (rule_for C r) (valid C r) (both_left (rule_for C r && valid C r) (minimal C r) t)
+    is_rule : T (rule_for C r && valid C r && minimal C r) → T (rule_for C r)
+    is_rule t = both_left (rule_for C r) (valid C r) (both_left (rule_for C r && valid C r) (minimal C r) t)
 
 -- a set of rules is complete where it and the list of minimal valid rules have the same members
 complete_by : (C : Constraint) (R : List Rule) → T (within same_rule R (minimal_rules C)) → T (within same_rule (minimal_rules C) R)

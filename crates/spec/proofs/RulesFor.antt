@@ -1,4 +1,4 @@
--- The rules for a constraint are all listed: `rulesFor` has every rule whose two sides are disjoint non-empty subsequences of
+-- The rules for a constraint are all listed: `rules_for` has every rule whose two sides are disjoint non-empty subsequences of
 -- the variables, and no other.
 -- Assumes nothing.
 use mathlib.Core.Path.{◌≡◌, refl, subst⁻¹}

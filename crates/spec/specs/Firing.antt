@@ -1,5 +1,5 @@
 -- Firing: the rules fired one conclusion at a time, in any order. That the order is of no matter, and that firing comes to rest, are
--- `run-rest` and `run_ends` of the crate's proofs.
+-- `run_rest` and `run_ends` of the crate's proofs.
 -- Assumes nothing.
 use Rattle.std.specs.Prelude.{◌↔◌, Bool, ℕ}
 use mathlib.Core.List.{List, ◌∷◌, Memᴰ}

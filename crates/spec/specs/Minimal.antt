@@ -2,7 +2,7 @@
 -- minimal, complete. The variables are the places of a record, and a tuple d gives each its state. Literals are X = s: the
 -- variables X, and the tuple s of their states. So X = s → Y = t is a `Rule`.
 -- "For every" and "for some" go over the tuples and the rules in finite lists, so that they compute. That these lists leave
--- nothing out is `tuple-listed` and `rule-listed` of the crate's proofs.
+-- nothing out is `tuple_listed` and `rule_listed` of the crate's proofs.
 -- Assumes nothing.
 use Rattle.std.specs.Prelude.{◌↔◌, Bool, true, false, not, ◌&&◌, ◌||◌, T}
 use Rattle.std.specs.Bool.{beq}

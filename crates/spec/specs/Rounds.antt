@@ -1,4 +1,4 @@
--- The closure computed: rounds in which every rule fires that can. That this is the least set is `closed-closure` of the
+-- The closure computed: rounds in which every rule fires that can. That this is the least set is `closed_closure` of the
 -- crate's proofs.
 -- Assumes nothing.
 use Rattle.std.specs.Prelude.{Bool, true, false, ◌&&◌, ◌||◌, List, map, ℕ, zero, suc, ◌*◌, eqb, length}

@@ -60,9 +60,9 @@ module _ (maker depot sheet : List ℕ) where
     -- every clash is found
     pub clash_finds : {b : ℕ} → Clash (rules_in maker depot) sheet b → T (clashes codes)
     unfolding clashes
-    clash_finds {b} (is_out, is_in_lem) =
+    clash_finds {b} (is_out, is_in) =
         let out' = (codes_exact b false).1 is_out in
-        let in' = (codes_exact b true).1 is_in_lem in
+        let in' = (codes_exact b true).1 is_in in
         any_of has_both (upto_member (holds_below codes b false out')) (both_of (holds codes b false) (holds codes b true) out' in')
 
     pub fill_clash : {b : ℕ} → Clash (rules_in maker depot) sheet b → fill_judges maker depot sheet ≡ refused (reason 7 0)

@@ -1,4 +1,4 @@
--- `records::place_of` meets its contract: the test is `recordPart`'s.
+-- `records::place_of` meets its contract: the test is `record_part`'s.
 -- Assumes nothing.
 use Prim.Native.Nat.{◌*◌}
 use native.Mathlib.Omega.{arith}

@@ -1,4 +1,4 @@
--- `records::record_from` meets its contract: each field is read where `recFrom` reads it.
+-- `records::record_from` meets its contract: each field is read where `rec_from` reads it.
 -- Assumes nothing.
 use Prim.Native.Nat.{◌+◌}
 use lib.ListN.{get_or}

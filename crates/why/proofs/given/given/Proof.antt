@@ -26,7 +26,7 @@ abbrev start : tie.After-struct-known → tie.Start
 start c = c.before.before.before
 
 counts : (c : tie.After-struct-known) → is_rule (record_of (start c)) ≡ true
-counts c = sym c.before.before.is_rule_lem.ensures ∙ not-false _ c.before.if1.false
+counts c = sym c.before.before.is_rule.ensures ∙ not-false _ c.before.if1.false
 
 is-rule-requires : tie.Need-is-rule-requires
 is-rule-requires c κs = search rules
@@ -34,7 +34,7 @@ is-rule-requires c κs = search rules
 returns : tie.Need-returns
 returns c =
     let began = c.before.before in (
-      asked_passed (record_of began) (states_of began) began.requires.0 began.requires.1 (sym c.before.is_rule_lem.ensures ∙ not-true _ c.if1.true)
+      asked_passed (record_of began) (states_of began) began.requires.0 began.requires.1 (sym c.before.is_rule.ensures ∙ not-true _ c.if1.true)
           began.args.b,
       omega arith,
     )

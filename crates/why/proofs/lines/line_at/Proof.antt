@@ -1,4 +1,4 @@
--- `why::lines::line_at` meets its contract: each field is read where `lineFrom` reads it.
+-- `why::lines::line_at` meets its contract: each field is read where `line_from` reads it.
 -- Assumes nothing.
 use Prim.Native.Nat.{◌+◌, ◌*◌}
 use lib.ListN.{get_or}
