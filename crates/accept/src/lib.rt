@@ -1,5 +1,6 @@
 // The checks of form: refusals 1 to 6, in the order of the paper's table. The first that applies is given.
 #![tactic(auto)]
+
 ghost use Rattle.std.specs.Prelude.{◌≡◌, false, ℕ, ◌<◌, length, get_or, ltb, ◌∷◌, []};
 ghost use Rattle.lemmas.specs.Lowest.{lowest};
 ghost use Rattle.spec.specs.Records.{record_at, record_count, bad};

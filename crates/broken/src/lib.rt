@@ -1,5 +1,6 @@
 // Whether a full list fits a record by its kind's truth table, and the first record that it breaks.
 #![tactic(auto)]
+
 ghost use Rattle.std.specs.Prelude.{◌≡◌};
 ghost use Rattle.spec.specs.Kinds.{kind_of, meaning};
 ghost use Rattle.spec.specs.Fits.{is_in, is_broken, first_broken};

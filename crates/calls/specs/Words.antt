@@ -1,6 +1,6 @@
 -- What an operation says, in words; the bytes of a buffer; and what is wrong with a line.
 -- Assumes nothing.
-use Rattle.std.specs.Prelude.{cond, List, [], ◌++◌, ℕ, eqb}
+use Rattle.std.specs.Prelude.{cond, List, ◌++◌, ℕ, eqb}
 use Rattle.spec.specs.Refusals.{Said, refused, answered}
 use Rattle.text.specs.Spelling.{ascii, hex_of}
 use Rattle.refusals.specs.declared.Numbers.{Numbers}

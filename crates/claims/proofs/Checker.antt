@@ -2,8 +2,8 @@
 -- Assumes nothing.
 use mathlib.Core.Path.{◌≡◌, refl, sym, ap, subst, ◌∙◌}
 use mathlib.Core.Logic.{◌↔◌}
-use mathlib.Core.Bool.{Bool, true, false, true≢false, cond, not}
-use mathlib.Core.List.{List, [], ◌∷◌}
+use mathlib.Core.Bool.{Bool, true, cond, not}
+use mathlib.Core.List.{List}
 use Prim.Native.Nat.{ℕ, ◌%◌, ◌≤◌, ◌<◌}
 use native.Mathlib.Omega.{arith}
 use native.Mathlib.Decide.{ℕ_discrete, dec_lt}
@@ -12,7 +12,7 @@ use lib.Dec.{ltb, eqb}
 use lib.ListN.{length}
 use Rattle.lemmas.specs.Lowest.{lowest}
 use Rattle.lemmas.proofs.Lowest.{lowest_none, lowest_at, lowest_below, lowest_found}
-use Rattle.spec.specs.Refusals.{Refusal, reason, place_of, number_of, Said, refused, answered, passed, judge, sheet_checks}
+use Rattle.spec.specs.Refusals.{Refusal, reason, place_of, number_of, Said, refused, passed, judge, sheet_checks}
 use Rattle.spec.proofs.Judge.{refused_answered, judge_passed, judge_reached}
 use Rattle.whylists.specs.Lines.{says_in, line_at, line_count, right}
 use Rattle.whylists.specs.Says.{length_check, lines_check, why_check_judges, why_check_says}

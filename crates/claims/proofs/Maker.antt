@@ -1,15 +1,14 @@
 -- The maker says what Fill says, and the list that it hands out explains each box that Fill settles.
 -- Assumes nothing.
-use mathlib.Core.Path.{◌≡◌, refl, sym, ap, subst, subst⁻¹, ◌∙◌}
+use mathlib.Core.Path.{◌≡◌, refl, sym, ap, subst, ◌∙◌}
 use mathlib.Core.Logic.{◌↔◌}
 use mathlib.Core.Bool.{Bool, true, false, cond}
 use mathlib.Core.List.{List, [], ◌∷◌, ◌++◌}
-use Prim.Native.Nat.{ℕ, ◌*◌, ◌/◌, ◌≤◌, ◌<◌}
+use Prim.Native.Nat.{ℕ, ◌*◌, ◌<◌}
 use native.Mathlib.Omega.{arith}
 use lib.Dec.{T}
 use lib.ListN.{length, get_or, take, drop}
 use lib.Seq.{take_all, take_at, drop_at}
-use Rattle.lemmas.proofs.Tests.{T_true, true_T}
 use Rattle.spec.specs.Records.{rules_in}
 use Rattle.spec.specs.Facts.{Clash, settled}
 use Rattle.spec.specs.Refusals.{reason, Said, refused, answered, passed, judge, written, sheet_checks, order_checks, out_check}
@@ -17,8 +16,8 @@ use Rattle.spec.specs.Fill.{closure_of, clashes, clash_check, boxes_filled, brok
 use Rattle.spec.proofs.Judge.{refused_answered, judge_passed, judge_reached, judge_left}
 use Rattle.spec.proofs.Accepted.{AcceptedSheet, sheet_accepted}
 use Rattle.theory.proofs.Filling.{clash_finds, fill_filled}
-use Rattle.whylists.specs.Lines.{Line, line_at, line_count, known, right_after, right}
-use Rattle.whylists.specs.Ours.{lines_from, ours, lines_bytes}
+use Rattle.whylists.specs.Lines.{Line, line_count, known, right_after}
+use Rattle.whylists.specs.Ours.{ours, lines_bytes}
 use Rattle.whylists.specs.Says.{why_checks, why_judges, why_says, at_head, why_writes, why_check_judges, why_check_says}
 use Rattle.whylists.specs.After.{states_after}
 use Rattle.whylists.proofs.Known.{IsRight, is_right}
@@ -30,7 +29,6 @@ use Rattle.whylists.proofs.Ours.{ours_fills}
 use Rattle.whylists.proofs.Accepted.{ours_right, ours_accepted}
 use Rattle.whylists.proofs.Lowest.{lowest_box, lowest_record, no_more}
 use Rattle.whylists.proofs.Counting.{ours_count}
-use Rattle.claims.specs.Demands.{InForm, SomeClash}
 use Rattle.claims.specs.Why.{HasLine, handed_lines, LowestLine, Explains}
 use Rattle.claims.proofs.Refusing.{form_passes}
 use Rattle.claims.proofs.Unbroken.{full_unbroken}

@@ -3,20 +3,20 @@
 -- Assumes nothing.
 use mathlib.Core.Path.{◌≡◌, refl, sym, subst, ◌∙◌}
 use mathlib.Core.Logic.{◌↔◌}
-use mathlib.Core.Bool.{Bool, true, false, not, ◌&&◌, beq}
-use mathlib.Core.List.{List, Memᴰ}
+use mathlib.Core.Bool.{Bool, true, false, beq}
+use mathlib.Core.List.{List}
 use Prim.Native.Nat.{ℕ, zero, suc, ◌<◌}
 use native.Mathlib.Omega.{arith}
 use borrow.Author.Tests.{eq-eqb, lt-ltb}
-use lib.Dec.{T, T_not, ltb, eqb, ltb→lt, eqb→eq, eqb_refl}
-use lib.ListN.{length, get_or}
+use lib.Dec.{T, T_not, eqb, ltb→lt, eqb→eq, eqb_refl}
+use lib.ListN.{get_or}
 use Rattle.lemmas.specs.Lists.{all, any, upto}
-use Rattle.lemmas.proofs.Members.{any_member, any_of, all_member, all_of, upto_member, member_upto}
+use Rattle.lemmas.proofs.Members.{any_member, any_of, all_member, upto_member, member_upto}
 use Rattle.lemmas.proofs.Reading.{get_d_default}
-use Rattle.lemmas.proofs.Tests.{T_true, true_T, false_T, both_left, both_right, both_of, beq_same, beq_refl}
+use Rattle.lemmas.proofs.Tests.{T_true, true_T, false_T, both_left, both_right, beq_same}
 use Rattle.spec.specs.Kinds.{kind_of}
 use Rattle.spec.specs.Rules.{rules_of}
-use Rattle.spec.specs.Records.{Rec, is_rule, box_at, record_at, record_count}
+use Rattle.spec.specs.Records.{is_rule, box_at, record_at, record_count}
 use Rattle.spec.specs.Facts.{holds}
 use Rattle.spec.specs.Rounds.{has, names, gives}
 use Rattle.theory.proofs.States.{state_of, holds_same, none_open, state_holds}

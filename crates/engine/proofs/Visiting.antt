@@ -1,6 +1,6 @@
 -- A box's chain is gone along: the rules at the entries above have had their step, and what each settled is queued.
 -- Assumes nothing.
-use mathlib.Core.Path.{◌≡◌, subst, subst⁻¹, ◌∙◌}
+use mathlib.Core.Path.{◌≡◌, subst⁻¹, ◌∙◌}
 use mathlib.Core.Logic.{◌⊎◌, inl, inr, ⊎_elim}
 use mathlib.Core.List.{List, [], ◌∷◌, Memᴰ}
 use Prim.Native.Nat.{ℕ, ◌*◌, ◌/◌, ◌<◌}

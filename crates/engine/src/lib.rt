@@ -1,6 +1,7 @@
 // The engine: states are filled until every rule is at rest. Sweeps go over all records; where a few of them don't suffice, a queue of
 // the boxes that were settled, and the index of the rules that name each. The states are lent, so that no step copies them.
 #![tactic(auto)]
+
 mod queue;
 mod step;
 mod sweep;

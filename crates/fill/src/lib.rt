@@ -1,5 +1,6 @@
 // The public operation Fill: the checks, the engine, and what is written.
 #![tactic(auto)]
+
 ghost use Rattle.std.specs.Prelude.{◌≡◌, ◌≤◌, length};
 ghost use Rattle.spec.proofs.Accepted.{WholeRecords, AcceptedSheet};
 ghost use Rattle.refusals.specs.Telling.{done_with, numbers_of, in_order};

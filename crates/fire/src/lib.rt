@@ -2,6 +2,7 @@
 // AND 2 and the like are the rules' names in source document 000, Table 1. An arm `_` on a state is for open, and for OUT or IN
 // where they have no arm beside it.
 #![tactic(auto)]
+
 ghost use Rattle.std.specs.Prelude.{◌≡◌, true};
 ghost use Rattle.fire.specs.States.{three, list_of, OnSheet, closed_alone, Fired, Rests, stirs_at};
 

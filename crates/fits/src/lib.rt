@@ -1,5 +1,6 @@
 // Test and Show: whether a full list fits every rule, the first record that it breaks, and that record's bytes.
 #![tactic(auto)]
+
 ghost use Rattle.std.specs.Prelude.{◌≡◌};
 ghost use Rattle.spec.specs.Fits.{test_judges, test_says, part_for, shows_part};
 ghost use Rattle.spec.proofs.Accepted.{Accepted};

@@ -1,6 +1,7 @@
 // The index of accepted tables: each rule in four bytes, and for each box the rules that name it, as chains of entries. An entry is
 // the place of a byte that holds a box; place 0 holds a kind, so 0 ends a chain.
 #![tactic(auto)]
+
 ghost use Rattle.std.specs.Prelude.{◌≡◌, false, [], ◌∷◌, ◌++◌, ℕ, ◌+◌, ◌*◌, ◌<◌, ◌≤◌, length, get_or};
 ghost use Rattle.spec.specs.Records.{rules_in, bad};
 ghost use Rattle.spec.proofs.Accepted.{Accepted};

@@ -1,6 +1,6 @@
 -- First's and Next's answer: what every case of it says; and their promises.
 -- Assumes nothing.
-use Rattle.std.specs.Prelude.{◌≡◌, Bool, true, false, List, ℕ}
+use Rattle.std.specs.Prelude.{◌≡◌, Bool, false, List, ℕ}
 use Rattle.spec.specs.Records.{rules_in}
 use Rattle.spec.specs.Refusals.{reason, Said, refused, Does}
 use Rattle.spec.specs.Kits.{handed_out, first_says, first_writes, next_says, next_writes}

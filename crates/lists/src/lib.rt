@@ -1,5 +1,6 @@
 // The public operations First and Next.
 #![tactic(auto)]
+
 ghost use Rattle.std.specs.Prelude.{◌≡◌, true, length};
 ghost use Rattle.spec.specs.Refusals.{is_answered};
 ghost use Rattle.spec.proofs.Accepted.{AcceptedSheet};

@@ -7,6 +7,7 @@
 //     First  0 0 0 a list is in out     1 NUMBER PLACE refused
 //     Next   as First
 #![tactic(auto)]
+
 ghost use Rattle.std.specs.Prelude.{◌≡◌};
 ghost use Rattle.spec.specs.Refusals.{Does};
 ghost use Rattle.spec.specs.Fits.{test_says, shows_part};

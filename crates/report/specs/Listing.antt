@@ -1,7 +1,7 @@
 -- What the listing program writes, byte by byte. Fields of a line are parted by one space, numbers are decimal, and each line
 -- ends with one line feed.
 -- Assumes nothing.
-use Rattle.std.specs.Prelude.{cond, List, [], ◌++◌, ℕ, ltb, length, take}
+use Rattle.std.specs.Prelude.{cond, List, ◌++◌, ℕ, ltb, length, take}
 use Rattle.text.specs.Spelling.{ascii, field, spelt, digits_of}
 use Rattle.spec.specs.Records.{record_count}
 use Rattle.spec.specs.Refusals.{Refusal, Said, refused, answered}

@@ -1,6 +1,7 @@
 // The search: it branches at the lowest position still open, out before in, with a fill after each choice. Each trial has a sheet
 // of its own. The tables' index is made once, and after a choice filling goes on from the chosen box alone.
 #![tactic(auto)]
+
 mod look;
 
 ghost use Rattle.std.specs.Prelude.{◌≡◌, false, length, set, take};

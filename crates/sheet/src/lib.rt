@@ -1,5 +1,6 @@
 // The sheet as 256 states, those past the sheet's end open: lent, or by value. A sheet with one more box settled is a new sheet.
 #![tactic(auto)]
+
 ghost use Rattle.std.specs.Prelude.{◌≡◌, ◌≤◌, ◌<◌, length, replicate, set};
 ghost use Rattle.spec.specs.Fill.{boxes_filled, open_count};
 ghost use Rattle.theory.specs.Steps.{Loaded};

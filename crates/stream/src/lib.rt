@@ -1,5 +1,6 @@
 // An input of lines, of which some part is at hand: its full lines are answered, as long as there is room for the answers.
 #![tactic(auto)]
+
 ghost use Rattle.std.specs.Prelude.{◌≡◌, true, false, List, ℕ, ◌+◌, ◌-◌, ◌≤◌, ◌<◌, min, length};
 ghost use Rattle.fields.specs.Cuts.{longest, until};
 ghost use Rattle.stream.specs.Input.{Advanced, Finished, RoomForLines, Turned};

@@ -6,8 +6,8 @@ use mathlib.Core.Bool.{Bool, true, false}
 use mathlib.Core.List.{List}
 use Prim.Native.Nat.{ℕ, zero, suc, ◌<◌}
 use native.Mathlib.Omega.{arith}
-use lib.Dec.{T, ltb, eqb, ltb→lt, eqb→eq, eqb_refl}
-use lib.ListN.{length, get_or, set}
+use lib.Dec.{T, eqb, ltb→lt, eqb→eq, eqb_refl}
+use lib.ListN.{get_or}
 use Rattle.lemmas.specs.Lists.{any, upto}
 use Rattle.lemmas.proofs.Reading.{get_d_default}
 use Rattle.lemmas.proofs.Members.{any_member, any_of, upto_member, member_upto}

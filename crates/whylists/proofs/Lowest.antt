@@ -2,12 +2,12 @@
 -- And after the last one no line is right.
 -- Assumes nothing.
 use mathlib.Core.Path.{◌≡◌, sym, ap, subst, ◌∙◌}
-use mathlib.Core.Bool.{Bool, true, false, true≢false, not, ◌&&◌, ◌||◌}
+use mathlib.Core.Bool.{Bool, true, false, true≢false, not, ◌&&◌}
 use mathlib.Core.List.{List}
 use Prim.Native.Nat.{ℕ, ◌≤◌, ◌<◌}
 use native.Mathlib.Omega.{arith}
 use native.Mathlib.Decide.{dec_lt}
-use lib.Dec.{T, ltb, eqb, ltb→lt, eqb→eq}
+use lib.Dec.{T, ltb, eqb, ltb→lt}
 use lib.ListN.{length, get_or, take}
 use lib.Seq.{take-length}
 use Rattle.lemmas.specs.Lists.{any, upto}

@@ -6,7 +6,7 @@ use mathlib.Core.List.{List, Memᴰ}
 use Prim.Native.Nat.{ℕ, zero, suc, ◌≤◌, ◌<◌}
 use native.Mathlib.Omega.{arith}
 use native.Mathlib.Decide.{ℕ_discrete}
-use lib.Dec.{T, ltb, eqb, ltb→lt, eqb→eq}
+use lib.Dec.{T, eqb, ltb→lt, eqb→eq}
 use lib.ListN.{length, get_or}
 use lib.Seq.{get_or-set_same, get_or-set_other}
 use Rattle.lemmas.specs.Lists.{all, any}

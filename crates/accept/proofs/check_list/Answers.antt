@@ -2,7 +2,6 @@
 -- Assumes nothing.
 use borrow.Author.Tests.{lt-ltb, le-ltb}
 use Rattle.spec.specs.Refusals.{list_check}
-use borrow.Author.Rules.{rules}
 use Rattle.accept.proofs.check_list.Goals as goal
 
 pub returns-then-i-list : goal.returns-then-i-list

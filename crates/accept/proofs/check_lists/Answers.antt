@@ -1,11 +1,7 @@
 -- `accept::check_lists` meets its contract: the given list's length comes first.
 -- Assumes nothing.
-use mathlib.Core.Path.{sym, ap, ◌∙◌}
 use mathlib.Core.List.{[], ◌∷◌}
-use borrow.Author.Rules.{rules}
-use lib.ListN.{length}
 use Rattle.spec.specs.Refusals.{passed, given_check, out_check, list_check}
-use Rattle.accept.specs.Form.{form_says}
 use Rattle.spec.proofs.Judge.{chain_refused, chain_passed}
 use Rattle.accept.proofs.check_lists.Goals as goal
 

@@ -1,11 +1,8 @@
 -- `accept::check_next` meets its contract: the sheet's checks come before the lists'.
 -- Assumes nothing.
-use mathlib.Core.Path.{sym, ap, ◌∙◌}
 use mathlib.Core.List.{[], ◌∷◌}
-use borrow.Author.Rules.{rules}
 use lib.ListN.{length}
 use Rattle.spec.specs.Refusals.{passed, sheet_checks, given_check, out_check, list_check}
-use Rattle.accept.specs.Form.{form_says}
 use Rattle.spec.proofs.Judge.{chain_refused, chain_passed}
 use Rattle.accept.proofs.check_next.Goals as goal
 

@@ -1,10 +1,7 @@
 -- `accept::check_out_and_list` meets its contract: the out buffer's check comes before the list's.
 -- Assumes nothing.
-use mathlib.Core.Path.{sym, ap, ◌∙◌}
 use mathlib.Core.List.{[], ◌∷◌}
-use borrow.Author.Rules.{rules}
 use Rattle.spec.specs.Refusals.{passed, out_check, list_check}
-use Rattle.accept.specs.Form.{form_says}
 use Rattle.spec.proofs.Judge.{chain_refused, chain_passed}
 use Rattle.accept.proofs.check_out_and_list.Goals as goal
 

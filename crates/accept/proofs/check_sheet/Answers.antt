@@ -2,7 +2,6 @@
 -- Assumes nothing.
 use borrow.Author.Tests.{lt-ltb, le-ltb}
 use Rattle.spec.specs.Refusals.{sheet_check}
-use borrow.Author.Rules.{rules}
 use Rattle.accept.proofs.check_sheet.Goals as goal
 
 pub returns-then-i-sheet : goal.returns-then-i-sheet

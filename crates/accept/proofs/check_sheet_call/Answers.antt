@@ -1,11 +1,8 @@
 -- `accept::check_sheet_call` meets its contract: the tables' checks come before the sheet's.
 -- Assumes nothing.
-use mathlib.Core.Path.{sym, ap, ◌∙◌}
 use mathlib.Core.List.{[], ◌∷◌}
-use borrow.Author.Rules.{rules}
 use lib.ListN.{length}
 use Rattle.spec.specs.Refusals.{passed, table_checks, sheet_check}
-use Rattle.accept.specs.Form.{form_says}
 use Rattle.spec.proofs.Judge.{chain_refused, chain_passed}
 use Rattle.accept.proofs.check_sheet_call.Goals as goal
 

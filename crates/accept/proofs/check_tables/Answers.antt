@@ -4,7 +4,6 @@ use borrow.Author.Tests.{eq-eqb, ne_eqb, lt-ltb, le-ltb}
 use native.Mathlib.Omega.{arith}
 use Rattle.spec.specs.Records.{record_count}
 use Rattle.spec.specs.Refusals.{boxes_check, maker_check, depot_check, count_check, record_check}
-use borrow.Author.Rules.{rules}
 use Rattle.accept.proofs.check_tables.Goals as goal
 
 pub returns-then-n-gt-MOST_BOXES : goal.returns-then-n-gt-MOST_BOXES

@@ -1,11 +1,8 @@
 -- `accept::check_test` meets its contract: the tables' checks come before the list's.
 -- Assumes nothing.
-use mathlib.Core.Path.{sym, ap, ◌∙◌}
 use mathlib.Core.List.{[], ◌∷◌}
-use borrow.Author.Rules.{rules}
 use lib.ListN.{length}
 use Rattle.spec.specs.Refusals.{passed, table_checks, list_check}
-use Rattle.accept.specs.Form.{form_says}
 use Rattle.spec.proofs.Judge.{chain_refused, chain_passed}
 use Rattle.accept.proofs.check_test.Goals as goal
 

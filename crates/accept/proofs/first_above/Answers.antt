@@ -1,12 +1,9 @@
 -- `accept::first_above` meets its contract: no byte passed is above `top`.
 -- Assumes nothing.
 use mathlib.Core.Path.{sym}
-use Prim.Native.Nat.{◌-◌}
 use borrow.Author.Rules.{rules}
-use borrow.Author.Tests.{lt-ltb, le-ltb, not-true}
-use lib.Dec.{ltb}
-use lib.ListN.{length, get_or}
-use Rattle.lemmas.proofs.Lowest.{lowest_none, Searched, searched_start, searched_next, searched_found, searched_all}
+use borrow.Author.Tests.{lt-ltb, le-ltb}
+use Rattle.lemmas.proofs.Lowest.{lowest_none, searched_start, searched_next, searched_found, searched_all}
 use Rattle.accept.proofs.first_above.Goals as goal
 
 pub returns-then-not-is_any_above : goal.returns-then-not-is_any_above

@@ -1,11 +1,9 @@
 -- `accept::first_bad` meets its contract: no record passed is bad.
 -- Assumes nothing.
-use mathlib.Core.Path.{◌≡◌, sym, ◌∙◌, ap}
-use Prim.Native.Nat.{◌-◌}
+use mathlib.Core.Path.{sym, ◌∙◌, ap}
 use native.Mathlib.Omega.{arith}
-use borrow.Author.Rules.{rules}
-use Rattle.lemmas.proofs.Lowest.{Searched, searched_start, searched_next, searched_found, searched_all}
-use Rattle.spec.specs.Records.{bad, record_at, record_count}
+use Rattle.lemmas.proofs.Lowest.{searched_start, searched_next, searched_found, searched_all}
+use Rattle.spec.specs.Records.{bad}
 use Rattle.accept.proofs.first_bad.Goals as goal
 
 pub loop-i-init : goal.loop-i-init

@@ -1,8 +1,6 @@
-use mathlib.Core.Path.{◌≡◌, sym, ◌∙◌, ap}
+use mathlib.Core.Path.{◌≡◌}
 use Prim.Native.Nat.{◌-◌}
-use native.Mathlib.Omega.{arith}
-use borrow.Author.Rules.{rules}
-use Rattle.lemmas.proofs.Lowest.{Searched, searched_start, searched_next, searched_found, searched_all}
+use Rattle.lemmas.proofs.Lowest.{Searched}
 use Rattle.spec.specs.Records.{bad, record_at, record_count}
 use Rattle.accept.proofs.first_bad.Given as goal
 

@@ -1,15 +1,11 @@
 -- `accept::is_any_above` meets its contract: where none was found, no byte passed is above `top`.
 -- Assumes nothing.
-use mathlib.Core.Path.{◌≡◌, sym, ◌∙◌}
-use mathlib.Core.Logic.{⊎_elim}
-use mathlib.Core.Bool.{false, true≢false}
-use Prim.Native.Nat.{ℕ, ◌-◌, ◌≤◌, ◌<◌}
+use mathlib.Core.Path.{sym, ◌∙◌}
+use mathlib.Core.Bool.{true≢false}
 use native.Mathlib.Omega.{arith}
 use borrow.Author.Count.{below_none, below_more}
 use borrow.Author.Rules.{rules}
 use borrow.Author.Tests.{le-ltb}
-use lib.Dec.{ltb}
-use lib.ListN.{length, get_or}
 use Rattle.accept.proofs.is_any_above.Goals.{then-top-s, else-top-s}
 use Rattle.accept.proofs.is_any_above.Goals as goal
 
@@ -21,9 +17,9 @@ loop-i-preserved c =
     let at_loop = c in (
       search rules,
       elim c.if-top-s.branch [
-        then-top-s w ↦ λ e. absurd (true≢false (sym w.found-is ∙ e))
-      | else-top-s w ↦
-          λ e. below_more _ at_loop.loop-i.i (at_loop.loop-i.invariant.1 (sym w.found-is ∙ e)) (le-ltb _ _ w.if-top-s.false)
+        | then-top-s w ↦ λ e. absurd (true≢false (sym w.found-is ∙ e))
+        | else-top-s w ↦
+            λ e. below_more _ at_loop.loop-i.i (at_loop.loop-i.invariant.1 (sym w.found-is ∙ e)) (le-ltb _ _ w.if-top-s.false)
       ],
     )
 

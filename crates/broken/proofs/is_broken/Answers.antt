@@ -4,8 +4,6 @@ use mathlib.Core.Path.{◌≡◌, refl, sym, ap, ◌∙◌, fun_ext}
 use mathlib.Core.Bool.{Bool, true, false, not}
 use mathlib.Core.List.{List}
 use Prim.Native.Nat.{ℕ}
-use borrow.Author.Rules.{rules}
-use borrow.Author.Tests.{not-true, not-false}
 use Rattle.spec.specs.Kinds.{X, Y, Z, kind_of, meaning}
 use Rattle.spec.specs.Records.{Rec, box_at, is_rule}
 use Rattle.spec.specs.Fits.{is_in, breaks, is_broken}

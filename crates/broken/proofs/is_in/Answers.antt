@@ -4,7 +4,6 @@ use mathlib.Core.Path.{refl}
 use Prim.Native.Nat.{ℕ}
 use lib.ListN.{get_or-eq_default}
 use Rattle.spec.specs.Fits.{is_in}
-use borrow.Author.Rules.{rules}
 use Rattle.broken.proofs.is_in.Goals as goal
 
 pub returns-then-b-list : goal.returns-then-b-list

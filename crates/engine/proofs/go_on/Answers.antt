@@ -6,7 +6,6 @@ use lib.ListN.{length-set}
 use lib.Seq.{get_or-set_same}
 use Rattle.theory.proofs.Growth.{grown_refl}
 use Rattle.engine.proofs.Draining.{poised_rests, poised_lent, poised_waits}
-use borrow.Author.Rules.{rules}
 use Rattle.engine.proofs.go_on.Goals as goal
 
 pub returns-then-states-b-eq-OPEN : goal.returns-then-states-b-eq-OPEN

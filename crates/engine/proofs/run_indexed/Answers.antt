@@ -1,6 +1,6 @@
 -- `engine::run_indexed` meets its contract: one sweep, and then the queue.
 -- Assumes nothing.
-use mathlib.Core.Path.{◌≡◌, refl, subst⁻¹}
+use mathlib.Core.Path.{refl, subst⁻¹}
 use mathlib.Core.List.{List}
 use Prim.Native.Nat.{ℕ}
 use native.Mathlib.Omega.{arith}

@@ -7,7 +7,6 @@ use Rattle.engine.specs.Moves.{Rested}
 use Rattle.engine.specs.Queue.{AllWait}
 use Rattle.index.proofs.Packing.{packed_good, packed_own}
 use Rattle.index.proofs.Linking.{linked_zeros}
-use borrow.Author.Rules.{rules}
 use Rattle.engine.proofs.run_queue.Goals as goal
 
 pub link-requires : goal.link-requires
@@ -20,8 +19,14 @@ drain-requires c =
     let linked = c in
     let packed = linked in
     let packs = packed.pack-m.ensures in
-    let began = packed in record { packed = packed_own packs; linked = linked.link.ensures; lent = began.requires.lent; from_le_to = began.requires.from_le_to; all_wait = subst⁻¹ (λ (qs : List Rec). AllWait qs began.args.states.now began.args.queue.now began.args.from began.args.to) packs.rules
-                began.requires.all_wait }
+    let began = packed in record {
+      packed = packed_own packs;
+      linked = linked.link.ensures;
+      lent = began.requires.lent;
+      from_le_to = began.requires.from_le_to;
+      all_wait = subst⁻¹ (λ (qs : List Rec). AllWait qs began.args.states.now began.args.queue.now began.args.from began.args.to) packs.rules
+          began.requires.all_wait;
+    }
 
 pub returns : goal.returns
 returns c =

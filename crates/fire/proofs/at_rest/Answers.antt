@@ -1,6 +1,5 @@
 -- `fire::at_rest` meets its contract: where the bit of the states is 0, nothing follows from them.
 -- Assumes nothing.
-use borrow.Author.Rules.{rules}
 use Rattle.fire.proofs.AtRest.{bit_rests}
 use Rattle.fire.proofs.at_rest.Goals as goal
 

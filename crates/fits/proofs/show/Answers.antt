@@ -1,12 +1,10 @@
 -- `fits::show` meets its contract: a refusal is shown by the empty part, and what comes after the checks is Show's.
 -- Assumes nothing.
-use mathlib.Core.Path.{◌≡◌, refl, sym, ◌∙◌, ap}
+use mathlib.Core.Path.{◌≡◌, refl, sym}
 use Rattle.spec.specs.Refusals.{passed, judge}
 use Rattle.spec.specs.Fits.{test_checks, bytes_of}
 use Rattle.spec.proofs.Accepted.{test_accepted}
-use Rattle.accept.specs.Form.{form_says}
 use Rattle.fits.proofs.Says.{show_refused, show_passed, shows_as}
-use borrow.Author.Rules.{rules}
 use Rattle.fits.proofs.show.Goals as goal
 
 pub returns-in-Refused : goal.returns-in-Refused
@@ -22,7 +20,7 @@ pub show_carried-requires : goal.show_carried-requires
 show_carried-requires c = test_accepted _ _ c.args.list.now ((let h : judge
     (test_checks c.args.maker.now c.args.depot.now
     c.args.list.now) passed ≡ passed =
-        sym c.in_default.ensures in h))
+    sym c.in_default.ensures in h))
 
 pub returns : goal.returns
 returns c =
@@ -30,4 +28,4 @@ returns c =
     shows_as (sym (show_passed a.maker.now a.depot.now a.list.now ((let h : judge
     (test_checks c.args.maker.now c.args.depot.now
     c.args.list.now) passed ≡ passed =
-        sym c.in_default.ensures in h)))) c.show_carried.ensures
+    sym c.in_default.ensures in h)))) c.show_carried.ensures

@@ -8,7 +8,7 @@ use native.Mathlib.Nat.{add-sub_cancel_left}
 use native.Mathlib.Omega.{arith}
 use lib.ListN.{take, drop}
 use Rattle.spec.specs.Records.{record_count}
-use Rattle.spec.specs.Fits.{test_judges, Part, part_for, record_part, bytes_of}
+use Rattle.spec.specs.Fits.{Part, part_for, record_part, bytes_of}
 use Rattle.spec.proofs.Accepted.{WholeRecords}
 use Rattle.spec.proofs.Broken.{part_start}
 use Rattle.records.specs.declared.Where.{Where}

@@ -2,7 +2,6 @@
 -- Assumes nothing.
 use native.Mathlib.Omega.{arith}
 use Rattle.fits.proofs.Says.{judged_broken, judged_fits}
-use borrow.Author.Rules.{rules}
 use Rattle.fits.proofs.test_accepted.Goals as goal
 
 pub first_broken-i-requires : goal.first_broken-i-requires

@@ -1,9 +1,7 @@
 -- `index::link` meets its contract: rule by rule, the entries of all rules are linked.
 -- Assumes nothing.
-use Prim.Native.Nat.{◌*◌, ◌-◌, ◌≤◌}
 use native.Mathlib.Omega.{arith}
 use borrow.Author.Rules.{rules}
-use Rattle.index.specs.Index.{Linked}
 use Rattle.index.proofs.Linking.{held_member, linked_to}
 use Rattle.index.proofs.link.Goals as goal
 

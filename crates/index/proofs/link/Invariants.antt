@@ -1,8 +1,5 @@
 use Prim.Native.Nat.{◌*◌, ◌-◌, ◌≤◌}
-use native.Mathlib.Omega.{arith}
-use borrow.Author.Rules.{rules}
 use Rattle.index.specs.Index.{Linked}
-use Rattle.index.proofs.Linking.{held_member, linked_to}
 use Rattle.index.proofs.link.Given as goal
 
 abbrev pub invariant-loop-j : goal.invariant-loop-j

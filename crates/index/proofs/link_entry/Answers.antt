@@ -1,6 +1,5 @@
 -- `index::link_entry` meets its contract: the entry is the highest of its box, and what was highest comes next.
 -- Assumes nothing.
-use borrow.Author.Rules.{rules}
 use Rattle.index.specs.Index.{Held}
 use Rattle.index.proofs.Linking.{linked_entry}
 use Rattle.index.proofs.link_entry.Goals as goal

@@ -3,7 +3,6 @@
 use mathlib.Core.Path.{sym, ◌∙◌}
 use Prim.Native.Nat.{◌+◌, ◌*◌}
 use native.Mathlib.Omega.{arith}
-use borrow.Author.Rules.{rules}
 use borrow.Author.Tests.{not-false}
 use Rattle.lemmas.proofs.Tests.{T_true}
 use Rattle.spec.specs.Kinds.{X, Y, Z}

@@ -1,14 +1,11 @@
 -- `index::pack` meets its contract: what is packed are the rules among the records so far.
 -- Assumes nothing.
-use mathlib.Core.Path.{◌≡◌, refl, sym, ap, ◌∙◌}
-use mathlib.Core.Logic.{⊎_elim}
-use Prim.Native.Nat.{◌-◌, ◌≤◌}
+use mathlib.Core.Path.{refl, sym, ap, ◌∙◌}
 use native.Mathlib.Omega.{arith}
 use borrow.Author.Rules.{rules}
-use lib.ListN.{length}
 use Rattle.spec.specs.Records.{is_rule}
 use Rattle.index.specs.Index.{packed_rules}
-use Rattle.index.proofs.Packing.{rules_below, rules_kept, rules_passed, packed_all}
+use Rattle.index.proofs.Packing.{rules_kept, rules_passed, packed_all}
 use Rattle.index.proofs.pack.Goals.{then-is_rule, else-is_rule}
 use Rattle.index.proofs.pack.Goals.{then-is_rule, else-is_rule}
 use Rattle.index.proofs.pack.Goals.{then-is_rule, else-is_rule}

@@ -1,12 +1,8 @@
-use mathlib.Core.Path.{◌≡◌, refl, sym, ap, ◌∙◌}
-use mathlib.Core.Logic.{⊎_elim}
+use mathlib.Core.Path.{◌≡◌}
 use Prim.Native.Nat.{◌-◌, ◌≤◌}
-use native.Mathlib.Omega.{arith}
-use borrow.Author.Rules.{rules}
 use lib.ListN.{length}
-use Rattle.spec.specs.Records.{is_rule}
 use Rattle.index.specs.Index.{packed_rules}
-use Rattle.index.proofs.Packing.{rules_below, rules_kept, rules_passed, packed_all}
+use Rattle.index.proofs.Packing.{rules_below}
 use Rattle.index.proofs.pack.Given as goal
 
 abbrev pub invariant-loop-i : goal.invariant-loop-i

@@ -1,15 +1,13 @@
 -- `lists::next` meets its contract: the checks come first, and what comes after them is Next's.
 -- Assumes nothing.
-use mathlib.Core.Path.{◌≡◌, sym, ap, subst, ◌∙◌}
+use mathlib.Core.Path.{◌≡◌, sym, ap, subst}
 use Rattle.spec.specs.Refusals.{passed, judge, next_checks}
 use Rattle.spec.specs.Kits.{head_of, hands_out, kits_after, next_says, next_writes}
 use Rattle.spec.proofs.Judge.{does_refused}
 use Rattle.spec.proofs.Accepted.{next_accepted}
-use Rattle.accept.specs.Form.{form_says}
 use Rattle.lists.specs.declared.Listed.{Listed}
 use Rattle.lists.specs.Answer.{NextDoes}
 use Rattle.lists.proofs.Calls.{listed_as, next_does}
-use borrow.Author.Rules.{rules}
 use Rattle.lists.proofs.next.Goals as goal
 
 pub returns-in-Refused : goal.returns-in-Refused
@@ -26,7 +24,7 @@ choose_carried-requires c =
     let a = (c).args in
     let known = next_accepted a.maker.now a.depot.now a.sheet.now a.given.now a.out.now ((let h : let a = (c).args in
     judge (next_checks a.maker.now a.depot.now a.sheet.now a.given.now a.out.now) passed ≡ passed =
-        sym c.in_default.ensures in h)) in
+    sym c.in_default.ensures in h)) in
     record { accepted_sheet = known.order; out_len = known.out_length; given_len = λ e. known.given_length }
 
 pub returns-then-choose_carried : goal.returns-then-choose_carried
@@ -38,7 +36,7 @@ returns-then-choose_carried c =
     subst (λ (r : Listed). NextDoes a.maker.now a.depot.now a.sheet.now a.given.now a.out.now r left) (ap listed_as c.if-choose_carried.true)
     (next_does a.maker.now a.depot.now a.sheet.now a.given.now a.out.now ((let h : let a = (told).args in
     judge (next_checks a.maker.now a.depot.now a.sheet.now a.given.now a.out.now) passed ≡ passed =
-        sym c.in_default.ensures in h)) chosen.choose_carried.result left
+    sym c.in_default.ensures in h)) chosen.choose_carried.result left
     chosen.choose_carried.ensures)
 
 pub returns : goal.returns
@@ -50,5 +48,5 @@ returns c =
     subst (λ (r : Listed). NextDoes a.maker.now a.depot.now a.sheet.now a.given.now a.out.now r left) (ap listed_as c.if-choose_carried.false)
     (next_does a.maker.now a.depot.now a.sheet.now a.given.now a.out.now ((let h : let a = (told).args in
     judge (next_checks a.maker.now a.depot.now a.sheet.now a.given.now a.out.now) passed ≡ passed =
-        sym c.in_default.ensures in h)) chosen.choose_carried.result left
+    sym c.in_default.ensures in h)) chosen.choose_carried.result left
     chosen.choose_carried.ensures)

@@ -2,7 +2,6 @@
 -- Assumes nothing.
 use Rattle.refusals.specs.Telling.{done_with}
 use Rattle.port.proofs.Answered.{does_told}
-use borrow.Author.Rules.{rules}
 use Rattle.port.proofs.angatupyi_fill.Goals as goal
 
 pub returns : goal.returns

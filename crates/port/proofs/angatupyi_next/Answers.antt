@@ -2,7 +2,6 @@
 -- Assumes nothing.
 use Rattle.lists.specs.Answer.{handed_numbers}
 use Rattle.port.proofs.Answered.{does_told}
-use borrow.Author.Rules.{rules}
 use Rattle.port.proofs.angatupyi_next.Goals as goal
 
 pub returns : goal.returns

@@ -3,7 +3,6 @@
 use mathlib.Core.Path.{◌∙◌, ap}
 use Rattle.refusals.specs.Telling.{numbers_of}
 use Rattle.fits.specs.Answer.{verdict_numbers}
-use borrow.Author.Rules.{rules}
 use Rattle.port.proofs.angatupyi_test.Goals as goal
 
 pub returns : goal.returns

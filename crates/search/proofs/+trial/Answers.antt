@@ -3,14 +3,13 @@
 use mathlib.Core.Path.{◌≡◌, sym, subst, subst⁻¹, ◌∙◌}
 use mathlib.Core.Bool.{Bool, true, false}
 use mathlib.Core.List.{List}
-use Prim.Native.Nat.{ℕ, ◌≤◌, ◌<◌}
+use Prim.Native.Nat.{ℕ, ◌<◌}
 use native.Mathlib.Omega.{arith}
-use borrow.Author.Tests.{not-false}
-use lib.ListN.{length, take, set}
+use lib.ListN.{take, set}
 use Rattle.spec.specs.Records.{Rec}
 use Rattle.engine.specs.Moves.{Rested}
 use Rattle.index.specs.Index.{packed_rules}
-use Rattle.kits.specs.Order.{Question, AnswerTo}
+use Rattle.kits.specs.Order.{AnswerTo}
 use Rattle.kits.specs.Kit.{Wanted}
 use Rattle.search.specs.Look.{bound_of, Stands, LowestOpen, PastOut}
 use Rattle.search.specs.Ready.{OnTrial, TrialReady}
@@ -125,8 +124,8 @@ trial-requires t c =
         readied began c.is_bound-bound.ensures (branch_ready began.trial looked c.in_default.not-Before box_open 1 (omega arith)),
         -- the queue has its size, whether or not the box out was tried
         elim c.if-not-is_past_out.branch [
-          then-not-is_past_out+else-answer w ↦ rw w.queue-is w.trial-answer.ensures.queue_len_2
-        | else-not-is_past_out w ↦ rw w.queue-is c.if-go_on.ensures.queue_len_2
+          | then-not-is_past_out+else-answer w ↦ rw w.queue-is w.trial-answer.ensures.queue_len_2
+          | else-not-is_past_out w ↦ rw w.queue-is c.if-go_on.ensures.queue_len_2
         ],
       ),
     )
@@ -143,10 +142,10 @@ returns t c =
     -- the branch with the box out has been tried in vain, or skipped since the given list has more than out
     let none_out : AnswerTo (Wanted qs c.args.n (set c.go_on.new.states c.lowest_open-b.result 0) (bound_of c.standing_to-standing.result) given) false l =
     elim c.if-not-is_past_out.branch [
-      then-not-is_past_out+else-answer w ↦ rw (bound, w.if-answer.false) at w.trial-answer.ensures.answer_to
-    | else-not-is_past_out w ↦
-        out_before began.trial looked c.in_default.not-Before box_open
-        (subst (PastOut given c.lowest_open-b.result) bound (c.is_past_out.ensures w.if-not-is_past_out.false)) l
+      | then-not-is_past_out+else-answer w ↦ rw (bound, w.if-answer.false) at w.trial-answer.ensures.answer_to
+      | else-not-is_past_out w ↦
+          out_before began.trial looked c.in_default.not-Before box_open
+          (subst (PastOut given c.lowest_open-b.result) bound (c.is_past_out.ensures w.if-not-is_past_out.false)) l
     ] in
     record {
       answer_to =

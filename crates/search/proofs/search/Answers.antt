@@ -1,18 +1,14 @@
 -- `search::search` meets its contract: the first trial starts from the sheet filled to rest.
 -- Assumes nothing.
-use borrow.Author.Rules.{rules}
-use mathlib.Core.Path.{◌≡◌, refl, sym, subst}
-use mathlib.Core.Bool.{Bool, false}
+use mathlib.Core.Path.{◌≡◌, refl, sym}
+use mathlib.Core.Bool.{false}
 use mathlib.Core.List.{List}
 use Prim.Native.Nat.{ℕ}
 use lib.ListN.{get_or, set, take}
 use lib.Seq.{set-get_or}
-use Rattle.spec.specs.Records.{Rec, rules_in}
+use Rattle.spec.specs.Records.{rules_in}
 use Rattle.spec.proofs.Accepted.{accepted_all}
-use Rattle.kits.specs.Order.{Question}
 use Rattle.kits.specs.Kit.{Wanted}
-use Rattle.engine.specs.Moves.{Rested}
-use Rattle.index.specs.Index.{packed_rules}
 use Rattle.index.proofs.Packing.{packed_good, packed_own}
 use Rattle.index.proofs.Linking.{linked_zeros}
 use Rattle.search.proofs.Trials.{with_found}
@@ -51,15 +47,15 @@ same_states t = set-get_or t 0 0
 pub trial-requires : goal.trial-requires
 trial-requires c =
     rw (same_states c.run_indexed.new.states) (
-      record {
-        trial_ready =
-            record {
-              rules = packed_own c.pack-m.ensures;
-              chains = c.link.ensures;
-              trial = start_trial c.requires c.pack-m.ensures.rules c.if-run_indexed.ensures;
-            };
-        queue_len = refl;
-      })
+    record {
+      trial_ready =
+          record {
+            rules = packed_own c.pack-m.ensures;
+            chains = c.link.ensures;
+            trial = start_trial c.requires c.pack-m.ensures.rules c.if-run_indexed.ensures;
+          };
+      queue_len = refl;
+    })
 
 pub returns : goal.returns
 returns c =

@@ -1,10 +1,8 @@
 -- `sheet::count_filled` meets its contract.
 -- Assumes nothing.
 use mathlib.Core.Path.{◌≡◌, refl}
-use mathlib.Core.Logic.{⊎_elim}
 use mathlib.Core.Bool.{Bool, true, false, cond, not, ◌&&◌}
-use mathlib.Core.List.{List}
-use Prim.Native.Nat.{ℕ, ◌+◌, ◌*◌, ◌-◌, ◌≤◌}
+use Prim.Native.Nat.{ℕ, ◌+◌, ◌*◌, ◌≤◌}
 use native.Mathlib.Omega.{arith}
 use borrow.Author.Rules.{rules}
 use borrow.Author.Tests.{eq-eqb, ne_eqb}
@@ -48,40 +46,60 @@ pub overflow_mul-n : goal.overflow_mul-n
 overflow_mul-n c =
     let both = c in
     let args = (both).args in
-    record { fits = omega (arith, (let h : let args = (both).args in
-    both.if-sheet-b-eq-OPEN.was_open * both.if-filled-b-eq-OPEN.is_settled ≡ cond (is_filled args.sheet.now args.filled.now (both).loop-b.b) 1 0 =
-        let args = (both).args in
-    let b = (both).loop-b.b in
-    times (eqb (get_or args.sheet.now b 0) 2) (not (eqb (get_or args.filled.now b 0) 2))
-    (elim both.if-sheet-b-eq-OPEN.branch [ then-sheet-b-eq-OPEN w ↦ rw (eq-eqb _ _ w.if-sheet-b-eq-OPEN.true) w.was_open-is | else-sheet-b-eq-OPEN w ↦ rw (ne_eqb _ _ w.if-sheet-b-eq-OPEN.false) w.was_open-is ])
-    (elim both.if-filled-b-eq-OPEN.branch [ then-filled-b-eq-OPEN w ↦ rw (eq-eqb _ _ w.if-filled-b-eq-OPEN.true) w.is_settled-is | else-filled-b-eq-OPEN w ↦ rw (ne_eqb _ _ w.if-filled-b-eq-OPEN.false) w.is_settled-is ]) in h), one_at_most (is_filled args.sheet.now args.filled.now (both).loop-b.b)) }
+    record {
+      fits = omega (
+        arith,
+        (let h : let args = (both).args in
+            both.if-sheet-b-eq-OPEN.was_open * both.if-filled-b-eq-OPEN.is_settled ≡ cond (is_filled args.sheet.now args.filled.now (both).loop-b.b) 1 0 =
+            let args = (both).args in
+            let b = (both).loop-b.b in
+            times (eqb (get_or args.sheet.now b 0) 2) (not (eqb (get_or args.filled.now b 0) 2))
+            (elim both.if-sheet-b-eq-OPEN.branch [ then-sheet-b-eq-OPEN w ↦ rw (eq-eqb _ _ w.if-sheet-b-eq-OPEN.true) w.was_open-is | else-sheet-b-eq-OPEN w ↦ rw (ne_eqb _ _ w.if-sheet-b-eq-OPEN.false) w.was_open-is ])
+            (elim both.if-filled-b-eq-OPEN.branch [ then-filled-b-eq-OPEN w ↦ rw (eq-eqb _ _ w.if-filled-b-eq-OPEN.true) w.is_settled-is | else-filled-b-eq-OPEN w ↦ rw (ne_eqb _ _ w.if-filled-b-eq-OPEN.false) w.is_settled-is ]) in h),
+        one_at_most (is_filled args.sheet.now args.filled.now (both).loop-b.b),
+      );
+    }
 
 pub overflow_add-n : goal.overflow_add-n
 overflow_add-n c =
     let both = c in
     let args = (both).args in
     let filled = is_filled args.sheet.now args.filled.now in
-    record { fits = omega (arith, (let h : let args = (both).args in
-    both.if-sheet-b-eq-OPEN.was_open * both.if-filled-b-eq-OPEN.is_settled ≡ cond (is_filled args.sheet.now args.filled.now (both).loop-b.b) 1 0 =
-        let args = (both).args in
-    let b = (both).loop-b.b in
-    times (eqb (get_or args.sheet.now b 0) 2) (not (eqb (get_or args.filled.now b 0) 2))
-    (elim both.if-sheet-b-eq-OPEN.branch [ then-sheet-b-eq-OPEN w ↦ rw (eq-eqb _ _ w.if-sheet-b-eq-OPEN.true) w.was_open-is | else-sheet-b-eq-OPEN w ↦ rw (ne_eqb _ _ w.if-sheet-b-eq-OPEN.false) w.was_open-is ])
-    (elim both.if-filled-b-eq-OPEN.branch [ then-filled-b-eq-OPEN w ↦ rw (eq-eqb _ _ w.if-filled-b-eq-OPEN.true) w.is_settled-is | else-filled-b-eq-OPEN w ↦ rw (ne_eqb _ _ w.if-filled-b-eq-OPEN.false) w.is_settled-is ]) in h), one_at_most (filled (both).loop-b.b), count_upto_below filled (both).loop-b.b) }
+    record {
+      fits = omega (
+        arith,
+        (let h : let args = (both).args in
+            both.if-sheet-b-eq-OPEN.was_open * both.if-filled-b-eq-OPEN.is_settled ≡ cond (is_filled args.sheet.now args.filled.now (both).loop-b.b) 1 0 =
+            let args = (both).args in
+            let b = (both).loop-b.b in
+            times (eqb (get_or args.sheet.now b 0) 2) (not (eqb (get_or args.filled.now b 0) 2))
+            (elim both.if-sheet-b-eq-OPEN.branch [ then-sheet-b-eq-OPEN w ↦ rw (eq-eqb _ _ w.if-sheet-b-eq-OPEN.true) w.was_open-is | else-sheet-b-eq-OPEN w ↦ rw (ne_eqb _ _ w.if-sheet-b-eq-OPEN.false) w.was_open-is ])
+            (elim both.if-filled-b-eq-OPEN.branch [ then-filled-b-eq-OPEN w ↦ rw (eq-eqb _ _ w.if-filled-b-eq-OPEN.true) w.is_settled-is | else-filled-b-eq-OPEN w ↦ rw (ne_eqb _ _ w.if-filled-b-eq-OPEN.false) w.is_settled-is ]) in h),
+        one_at_most (filled (both).loop-b.b),
+        count_upto_below filled (both).loop-b.b,
+      );
+    }
 
 pub loop-b-preserved : goal.loop-b-preserved
 loop-b-preserved c =
     let both = c in
     let args = (both).args in
     let filled = is_filled args.sheet.now args.filled.now in
-    let at_loop = (both).loop-b in
-    (search rules, omega (arith, (let h : let args = (both).args in
-    both.if-sheet-b-eq-OPEN.was_open * both.if-filled-b-eq-OPEN.is_settled ≡ cond (is_filled args.sheet.now args.filled.now (both).loop-b.b) 1 0 =
-        let args = (both).args in
-    let b = (both).loop-b.b in
-    times (eqb (get_or args.sheet.now b 0) 2) (not (eqb (get_or args.filled.now b 0) 2))
-    (elim both.if-sheet-b-eq-OPEN.branch [ then-sheet-b-eq-OPEN w ↦ rw (eq-eqb _ _ w.if-sheet-b-eq-OPEN.true) w.was_open-is | else-sheet-b-eq-OPEN w ↦ rw (ne_eqb _ _ w.if-sheet-b-eq-OPEN.false) w.was_open-is ])
-    (elim both.if-filled-b-eq-OPEN.branch [ then-filled-b-eq-OPEN w ↦ rw (eq-eqb _ _ w.if-filled-b-eq-OPEN.true) w.is_settled-is | else-filled-b-eq-OPEN w ↦ rw (ne_eqb _ _ w.if-filled-b-eq-OPEN.false) w.is_settled-is ]) in h), at_loop.invariant.1, count_next filled at_loop.b (filled at_loop.b) refl))
+    let at_loop = (both).loop-b in (
+      search rules,
+      omega (
+        arith,
+        (let h : let args = (both).args in
+            both.if-sheet-b-eq-OPEN.was_open * both.if-filled-b-eq-OPEN.is_settled ≡ cond (is_filled args.sheet.now args.filled.now (both).loop-b.b) 1 0 =
+            let args = (both).args in
+            let b = (both).loop-b.b in
+            times (eqb (get_or args.sheet.now b 0) 2) (not (eqb (get_or args.filled.now b 0) 2))
+            (elim both.if-sheet-b-eq-OPEN.branch [ then-sheet-b-eq-OPEN w ↦ rw (eq-eqb _ _ w.if-sheet-b-eq-OPEN.true) w.was_open-is | else-sheet-b-eq-OPEN w ↦ rw (ne_eqb _ _ w.if-sheet-b-eq-OPEN.false) w.was_open-is ])
+            (elim both.if-filled-b-eq-OPEN.branch [ then-filled-b-eq-OPEN w ↦ rw (eq-eqb _ _ w.if-filled-b-eq-OPEN.true) w.is_settled-is | else-filled-b-eq-OPEN w ↦ rw (ne_eqb _ _ w.if-filled-b-eq-OPEN.false) w.is_settled-is ]) in h),
+        at_loop.invariant.1,
+        count_next filled at_loop.b (filled at_loop.b) refl,
+      ),
+    )
 
 pub overflow_cast-result : goal.overflow_cast-result
 overflow_cast-result c =

@@ -1,16 +1,11 @@
 -- `sheet::count_open` meets its contract.
 -- Assumes nothing.
 use mathlib.Core.Path.{◌≡◌, refl, sym, ◌∙◌}
-use mathlib.Core.Bool.{Bool}
-use mathlib.Core.List.{List}
-use Prim.Native.Nat.{ℕ, ◌-◌, ◌≤◌}
 use native.Mathlib.Omega.{arith}
 use borrow.Author.Rules.{rules}
 use borrow.Author.Tests.{eq-eqb, ne_eqb}
 use lib.Dec.{eqb}
-use lib.ListN.{length, get_or}
-use mathlib.Core.Logic.{⊎_elim}
-use Rattle.lemmas.specs.Lists.{count, upto}
+use lib.ListN.{length}
 use Rattle.spec.specs.Fill.{open_count}
 use Rattle.lemmas.proofs.Indexed.{count_indexed, count_upto_yes, count_upto_no, count_upto_below}
 use Rattle.sheet.proofs.count_open.Goals.{then-sheet-b-eq-OPEN, else-sheet-b-eq-OPEN}

@@ -1,16 +1,10 @@
-use mathlib.Core.Path.{◌≡◌, refl, sym, ◌∙◌}
+use mathlib.Core.Path.{◌≡◌}
 use mathlib.Core.Bool.{Bool}
 use mathlib.Core.List.{List}
 use Prim.Native.Nat.{ℕ, ◌-◌, ◌≤◌}
-use native.Mathlib.Omega.{arith}
-use borrow.Author.Rules.{rules}
-use borrow.Author.Tests.{eq-eqb, ne_eqb}
 use lib.Dec.{eqb}
 use lib.ListN.{length, get_or}
-use mathlib.Core.Logic.{⊎_elim}
 use Rattle.lemmas.specs.Lists.{count, upto}
-use Rattle.spec.specs.Fill.{open_count}
-use Rattle.lemmas.proofs.Indexed.{count_indexed, count_upto_yes, count_upto_no, count_upto_below}
 use Rattle.sheet.proofs.count_open.Given as goal
 
 abbrev pub is_open : List ℕ → ℕ → Bool

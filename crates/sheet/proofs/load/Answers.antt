@@ -1,11 +1,10 @@
 -- `sheet::load` meets its contract: the sheet is copied over 256 open boxes.
 -- Assumes nothing.
 use mathlib.Core.Path.{◌≡◌}
-use Prim.Native.Nat.{◌-◌, ◌≤◌}
 use native.Mathlib.Omega.{arith}
 use borrow.Author.Rules.{rules}
-use lib.ListN.{length, replicate}
-use Rattle.lemmas.proofs.Copying.{Copying, copying_start, copying_next}
+use lib.ListN.{length}
+use Rattle.lemmas.proofs.Copying.{copying_start, copying_next}
 use Rattle.sheet.proofs.Copied.{loaded_copy}
 use Rattle.sheet.proofs.load.Goals as goal
 

@@ -1,10 +1,6 @@
-use mathlib.Core.Path.{◌≡◌}
 use Prim.Native.Nat.{◌-◌, ◌≤◌}
-use native.Mathlib.Omega.{arith}
-use borrow.Author.Rules.{rules}
 use lib.ListN.{length, replicate}
-use Rattle.lemmas.proofs.Copying.{Copying, copying_start, copying_next}
-use Rattle.sheet.proofs.Copied.{loaded_copy}
+use Rattle.lemmas.proofs.Copying.{Copying}
 use Rattle.sheet.proofs.load.Given as goal
 
 abbrev pub invariant-loop-b : goal.invariant-loop-b

@@ -1,10 +1,8 @@
 -- `sheet::store` meets its contract: the states are copied over the whole of the buffer.
 -- Assumes nothing.
-use Prim.Native.Nat.{◌-◌, ◌≤◌}
 use native.Mathlib.Omega.{arith}
 use borrow.Author.Rules.{rules}
-use lib.ListN.{length}
-use Rattle.lemmas.proofs.Copying.{Copying, copying_start, copying_next, copied_all}
+use Rattle.lemmas.proofs.Copying.{copying_start, copying_next, copied_all}
 use Rattle.sheet.proofs.store.Goals as goal
 
 pub loop-b-init : goal.loop-b-init

@@ -1,8 +1,6 @@
 use Prim.Native.Nat.{◌-◌, ◌≤◌}
-use native.Mathlib.Omega.{arith}
-use borrow.Author.Rules.{rules}
 use lib.ListN.{length}
-use Rattle.lemmas.proofs.Copying.{Copying, copying_start, copying_next, copied_all}
+use Rattle.lemmas.proofs.Copying.{Copying}
 use Rattle.sheet.proofs.store.Given as goal
 
 abbrev pub invariant-loop-b : goal.invariant-loop-b

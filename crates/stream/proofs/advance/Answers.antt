@@ -7,7 +7,6 @@ use lib.ListN.{length}
 use Rattle.fields.specs.Cuts.{until}
 use Rattle.fields.proofs.Splitting.{until_below}
 use Rattle.stream.proofs.Advancing.{advance_wait, advance_long}
-use borrow.Author.Rules.{rules}
 use Rattle.stream.proofs.advance.Goals as goal
 
 pub returns-then-skipping : goal.returns-then-skipping
@@ -21,7 +20,7 @@ returns-then-input-le-LONGEST c =
     let input = c.args.input.now in
     rw c.if-skipping.false (advance_wait input _ ((let h : until 10 c.args.input.now ≡ length
     c.args.input.now =
-        omega (arith, c.if-end_of-input.false, c.end_of.ensures, until_below 10 c.args.input.now) in h)) (omega (arith, c.if-input-le-LONGEST.true)))
+    omega (arith, c.if-end_of-input.false, c.end_of.ensures, until_below 10 c.args.input.now) in h)) (omega (arith, c.if-input-le-LONGEST.true)))
 
 pub returns : goal.returns
 returns c =
@@ -32,5 +31,5 @@ returns c =
     rw met.if-skipping.false
     (advance_long start.args.input.now _ _ _ (cut.cut_end-last.result - 0) ((let h : until 10 met.args.input.now ≡ length
     met.args.input.now =
-        omega (arith, met.if-end_of-input.false, met.end_of.ensures, until_below 10 met.args.input.now) in h)) (omega (arith, met.if-input-le-LONGEST.false)) start.requires.reply
+    omega (arith, met.if-end_of-input.false, met.end_of.ensures, until_below 10 met.args.input.now) in h)) (omega (arith, met.if-input-le-LONGEST.false)) start.requires.reply
     (omega (arith, met.if-input-le-LONGEST.false, cut.cut_end-last.ensures)) replied.reply-at.ensures)

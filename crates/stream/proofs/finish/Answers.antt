@@ -2,7 +2,6 @@
 -- Assumes nothing.
 use native.Mathlib.Omega.{arith}
 use Rattle.stream.proofs.Advancing.{finish_line}
-use borrow.Author.Rules.{rules}
 use Rattle.stream.proofs.finish.Goals as goal
 
 pub returns : goal.returns

@@ -1,10 +1,10 @@
 -- `stream::replies` meets its contract. The loop's invariant: the full lines passed are answered.
 -- Assumes nothing.
-use Prim.Native.Nat.{◌-◌, ◌<◌}
+use Prim.Native.Nat.{◌<◌}
 use native.Mathlib.Omega.{arith}
 use lib.ListN.{length}
 use Rattle.fields.proofs.Splitting.{end_below}
-use Rattle.stream.proofs.Replying.{Replying, replying_start, replying_next, replying_done, cut_size}
+use Rattle.stream.proofs.Replying.{replying_start, replying_next, replying_done, cut_size}
 use Rattle.stream.proofs.replies.Goals as goal
 
 pub loop-from-init : goal.loop-from-init
@@ -43,9 +43,14 @@ pub slice_bounds-reply-start : goal.slice_bounds-reply-start
 slice_bounds-reply-start c = omega (arith, c.cut_end-last.ensures)
 
 pub slice_bounds-reply-end : goal.slice_bounds-reply-end
-slice_bounds-reply-end c = omega (arith, c.cut_end-last.ensures, c.end_of-end.ensures, (let h : c.end_of-end.result < length c.args.input.now =
-        let input = c.args.input.now in
-    omega (arith, c.if-end-input.false, end_below 10 input _ _ c.loop-from.invariant.within c.end_of-end.ensures) in h))
+slice_bounds-reply-end c = omega (
+  arith,
+  c.cut_end-last.ensures,
+  c.end_of-end.ensures,
+  (let h : c.end_of-end.result < length c.args.input.now =
+      let input = c.args.input.now in
+      omega (arith, c.if-end-input.false, end_below 10 input _ _ c.loop-from.invariant.within c.end_of-end.ensures) in h),
+)
 
 pub reply-at-requires : goal.reply-at-requires
 reply-at-requires c =
@@ -54,8 +59,8 @@ reply-at-requires c =
     omega (
       arith,
       cut_size met.loop-from.invariant _ met.end_of-end.ensures ((let h : met.end_of-end.result < length met.args.input.now =
-        let input = met.args.input.now in
-    omega (arith, met.if-end-input.false, end_below 10 input _ _ met.loop-from.invariant.within met.end_of-end.ensures) in h)) _ cut.cut_end-last.ensures,
+          let input = met.args.input.now in
+          omega (arith, met.if-end-input.false, end_below 10 input _ _ met.loop-from.invariant.within met.end_of-end.ensures) in h)) _ cut.cut_end-last.ensures,
       cut.if-text-at-lt-REPLY.false,
     )
 
@@ -63,17 +68,26 @@ pub overflow_add-from : goal.overflow_add-from
 overflow_add-from c =
     let replied = c in
     let met = replied in
-    record { fits = omega (arith, (let h : met.end_of-end.result < length met.args.input.now =
-        let input = met.args.input.now in
-    omega (arith, met.if-end-input.false, end_below 10 input _ _ met.loop-from.invariant.within met.end_of-end.ensures) in h)) }
+    record {
+      fits = omega (
+        arith,
+        (let h : met.end_of-end.result < length met.args.input.now =
+            let input = met.args.input.now in
+            omega (arith, met.if-end-input.false, end_below 10 input _ _ met.loop-from.invariant.within met.end_of-end.ensures) in h),
+      );
+    }
 
 pub loop-from-smaller : goal.loop-from-smaller
 loop-from-smaller c =
     let replied = c in
     let met = replied in
-    omega (arith, (let h : met.end_of-end.result < length met.args.input.now =
-        let input = met.args.input.now in
-    omega (arith, met.if-end-input.false, end_below 10 input _ _ met.loop-from.invariant.within met.end_of-end.ensures) in h), met.end_of-end.ensures)
+    omega (
+      arith,
+      (let h : met.end_of-end.result < length met.args.input.now =
+          let input = met.args.input.now in
+          omega (arith, met.if-end-input.false, end_below 10 input _ _ met.loop-from.invariant.within met.end_of-end.ensures) in h),
+      met.end_of-end.ensures,
+    )
 
 pub loop-from-preserved : goal.loop-from-preserved
 loop-from-preserved c =
@@ -83,9 +97,9 @@ loop-from-preserved c =
     let stop = met.end_of-end.ensures in
     let l = met.loop-from.invariant in
     let size = cut_size l _ stop ((let h : met.end_of-end.result < length met.args.input.now =
-        let input = met.args.input.now in
+    let input = met.args.input.now in
     omega (arith, met.if-end-input.false, end_below 10 input _ _ met.loop-from.invariant.within met.end_of-end.ensures) in h)) _ cut.cut_end-last.ensures in
     replying_next l _ stop ((let h : met.end_of-end.result < length met.args.input.now =
-        let input = met.args.input.now in
+    let input = met.args.input.now in
     omega (arith, met.if-end-input.false, end_below 10 input _ _ met.loop-from.invariant.within met.end_of-end.ensures) in h)) _ cut.cut_end-last.ensures _ _
     (omega (arith, replied.reply-at.ensures.short, size, cut.if-text-at-lt-REPLY.false)) replied.reply-at.ensures.puts

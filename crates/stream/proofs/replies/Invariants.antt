@@ -1,8 +1,6 @@
-use Prim.Native.Nat.{◌-◌, ◌<◌}
-use native.Mathlib.Omega.{arith}
+use Prim.Native.Nat.{◌-◌}
 use lib.ListN.{length}
-use Rattle.fields.proofs.Splitting.{end_below}
-use Rattle.stream.proofs.Replying.{Replying, replying_start, replying_next, replying_done, cut_size}
+use Rattle.stream.proofs.Replying.{Replying}
 use Rattle.stream.proofs.replies.Given as goal
 
 abbrev pub invariant-loop-from : goal.invariant-loop-from

@@ -3,9 +3,7 @@
 use mathlib.Core.Path.{sym, ◌∙◌}
 use mathlib.Core.Bool.{true≢false}
 use native.Mathlib.Omega.{arith}
-use borrow.Author.Tests.{not-true, not-false}
 use Rattle.stream.proofs.Turning.{turned_kept, turned_waits, turned_ends}
-use borrow.Author.Rules.{rules}
 use Rattle.stream.proofs.turn.Goals as goal
 
 pub returns-then-reached-gt0 : goal.returns-then-reached-gt0

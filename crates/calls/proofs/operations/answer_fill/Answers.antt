@@ -9,7 +9,6 @@ use Rattle.text.specs.Spelling.{field}
 use Rattle.fill.specs.Answer.{filled_says}
 use Rattle.calls.proofs.Putting.{lent_within, put_lent}
 use Rattle.calls.proofs.Saying.{filled_words}
-use borrow.Author.Rules.{rules}
 use Rattle.calls.proofs.operations.answer_fill.Goals as goal
 
 pub slice_bounds-fill-end-2 : goal.slice_bounds-fill-end-2

@@ -9,7 +9,6 @@ use Rattle.calls.specs.Rows.{handed_words}
 use Rattle.lists.specs.Answer.{listed_says}
 use Rattle.calls.proofs.Putting.{lent_within, put_lent}
 use Rattle.calls.proofs.Saying.{listed_words}
-use borrow.Author.Rules.{rules}
 use Rattle.calls.proofs.operations.answer_first.Goals as goal
 
 pub slice_bounds-first-end-2 : goal.slice_bounds-first-end-2

@@ -4,7 +4,6 @@ use native.Mathlib.Omega.{arith}
 use Rattle.text.proofs.Puts.{put_then, put_length}
 use Rattle.text.proofs.Rooms.{hex_length}
 use Rattle.calls.proofs.Shown.{shown_short}
-use borrow.Author.Rules.{rules}
 use Rattle.calls.proofs.operations.answer_show.Goals as goal
 
 pub put_hex-requires : goal.put_hex-requires

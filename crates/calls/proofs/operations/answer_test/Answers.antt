@@ -3,7 +3,6 @@
 use native.Mathlib.Omega.{arith}
 use Rattle.text.proofs.Rooms.{room_within}
 use Rattle.calls.proofs.Saying.{tested_broken, tested_words}
-use borrow.Author.Rules.{rules}
 use Rattle.calls.proofs.operations.answer_test.Goals as goal
 
 pub returns-then-said-eq-BROKEN : goal.returns-then-said-eq-BROKEN

@@ -3,7 +3,6 @@
 use mathlib.Core.Path.{◌≡◌, sym, ◌∙◌, ap}
 use Prim.Native.Nat.{ℕ, ◌+◌, ◌≤◌, ◌<◌}
 use native.Mathlib.Omega.{arith}
-use borrow.Author.Tests.{not-true, not-false}
 use lib.ListN.{length}
 use lib.Seq.{length-take-le}
 use Rattle.fields.specs.Fields.{fields_of}
@@ -11,7 +10,6 @@ use Rattle.fields.proofs.Splitting.{end_below}
 use Rattle.calls.specs.Rows.{call_rows, row_at}
 use Rattle.calls.proofs.Table.{row_many}
 use Rattle.calls.proofs.Answering.{known, answer_long, answer_word, answer_fields, answer_digits, answer_call, after_within, after_right}
-use borrow.Author.Rules.{rules}
 use Rattle.calls.proofs.reply.answer.Goals as goal
 
 pub returns-then-line-gt-LONGEST : goal.returns-then-line-gt-LONGEST
@@ -36,13 +34,19 @@ returns-then-row-eq-ROWS c =
 
 pub many_of-requires : goal.many_of-requires
 many_of-requires c = (let h : c.row_of-row.result < length call_rows =
-        let word = c in
+    let word = c in
     known _ word.if-line-gt-LONGEST.false _ word.end_of-end.ensures _ c.row_of-row.ensures c.if-row-eq-ROWS.false in h)
 
 pub overflow_add-many_of : goal.overflow_add-many_of
-overflow_add-many_of c = record { fits = omega (arith, c.many_of.ensures, row_many c.row_of-row.result ((let h : c.row_of-row.result < length call_rows =
+overflow_add-many_of c = record {
+  fits = omega (
+    arith,
+    c.many_of.ensures,
+    row_many c.row_of-row.result ((let h : c.row_of-row.result < length call_rows =
         let word = c in
-    known _ word.if-line-gt-LONGEST.false _ word.end_of-end.ensures _ c.row_of-row.ensures c.if-row-eq-ROWS.false in h))) }
+        known _ word.if-line-gt-LONGEST.false _ word.end_of-end.ensures _ c.row_of-row.ensures c.if-row-eq-ROWS.false in h)),
+  );
+}
 
 pub returns-then-count_pieces-many_of : goal.returns-then-count_pieces-many_of
 returns-then-count_pieces-many_of c =
@@ -56,22 +60,27 @@ returns-then-count_pieces-many_of c =
     (record { puts = put; short = omega (arith, put.after) })
 
 pub overflow_add-from : goal.overflow_add-from
-overflow_add-from c = record { fits = omega (arith, (let h : c.end_of-end.result + 1
-    ≤ length c.args.line.now =
+overflow_add-from c = record {
+  fits = omega (
+    arith,
+    (let h : c.end_of-end.result + 1
+        ≤ length c.args.line.now =
         let row = c in
-    let word = row in
-    after_within _ word.if-line-gt-LONGEST.false _ word.end_of-end.ensures _ row.row_of-row.ensures c.if-row-eq-ROWS.false ((let h : length (fields_of c.args.line.now)
-    ≡ (row_at c.row_of-row.result).many + 1 =
-        sym c.count_pieces.ensures ∙ c.if-count_pieces-many_of.false ∙ ap (λ (n : ℕ). n + 1) c.many_of.ensures in h)) in h)) }
+        let word = row in
+        after_within _ word.if-line-gt-LONGEST.false _ word.end_of-end.ensures _ row.row_of-row.ensures c.if-row-eq-ROWS.false ((let h : length (fields_of c.args.line.now)
+        ≡ (row_at c.row_of-row.result).many + 1 =
+        sym c.count_pieces.ensures ∙ c.if-count_pieces-many_of.false ∙ ap (λ (n : ℕ). n + 1) c.many_of.ensures in h)) in h),
+  );
+}
 
 pub are_fields-requires : goal.are_fields-requires
 are_fields-requires c = (let h : c.end_of-end.result + 1
     ≤ length c.args.line.now =
-        let row = c in
+    let row = c in
     let word = row in
     after_within _ word.if-line-gt-LONGEST.false _ word.end_of-end.ensures _ row.row_of-row.ensures c.if-row-eq-ROWS.false ((let h : length (fields_of c.args.line.now)
     ≡ (row_at c.row_of-row.result).many + 1 =
-        sym c.count_pieces.ensures ∙ c.if-count_pieces-many_of.false ∙ ap (λ (n : ℕ). n + 1) c.many_of.ensures in h)) in h)
+    sym c.count_pieces.ensures ∙ c.if-count_pieces-many_of.false ∙ ap (λ (n : ℕ). n + 1) c.many_of.ensures in h)) in h)
 
 pub returns-then-not-are_fields : goal.returns-then-not-are_fields
 returns-then-not-are_fields c =
@@ -83,7 +92,7 @@ returns-then-not-are_fields c =
     rw
     (answer_digits _ word.if-line-gt-LONGEST.false _ word.end_of-end.ensures _ row.row_of-row.ensures met.if-row-eq-ROWS.false ((let h : length (fields_of met.args.line.now)
     ≡ (row_at met.row_of-row.result).many + 1 =
-        sym met.count_pieces.ensures ∙ met.if-count_pieces-many_of.false ∙ ap (λ (n : ℕ). n + 1) met.many_of.ensures in h))
+    sym met.count_pieces.ensures ∙ met.if-count_pieces-many_of.false ∙ ap (λ (n : ℕ). n + 1) met.many_of.ensures in h))
     (sym tested.are_fields.ensures ∙ c.if-not-are_fields.true))
     (record { puts = put; short = omega (arith, put.after) })
 
@@ -93,10 +102,13 @@ answer_fields-requires c =
     let met = tested in
     let row = met in
     let word = row in
-    let start = word in record { right_fields = after_right _ word.if-line-gt-LONGEST.false _ word.end_of-end.ensures _ row.row_of-row.ensures met.if-row-eq-ROWS.false ((let h : length (fields_of met.args.line.now)
-    ≡ (row_at met.row_of-row.result).many + 1 =
-        sym met.count_pieces.ensures ∙ met.if-count_pieces-many_of.false ∙ ap (λ (n : ℕ). n + 1) met.many_of.ensures in h))
-          (sym tested.are_fields.ensures ∙ c.if-not-are_fields.false); line_len_bound = (word.if-line-gt-LONGEST.false, omega (arith, start.requires)) }
+    let start = word in record {
+      right_fields = after_right _ word.if-line-gt-LONGEST.false _ word.end_of-end.ensures _ row.row_of-row.ensures met.if-row-eq-ROWS.false ((let h : length (fields_of met.args.line.now)
+          ≡ (row_at met.row_of-row.result).many + 1 =
+          sym met.count_pieces.ensures ∙ met.if-count_pieces-many_of.false ∙ ap (λ (n : ℕ). n + 1) met.many_of.ensures in h))
+          (sym tested.are_fields.ensures ∙ c.if-not-are_fields.false);
+      line_len_bound = (word.if-line-gt-LONGEST.false, omega (arith, start.requires));
+    }
 
 pub returns : goal.returns
 returns c =
@@ -107,6 +119,6 @@ returns c =
     rw
     (answer_call _ word.if-line-gt-LONGEST.false _ word.end_of-end.ensures _ row.row_of-row.ensures met.if-row-eq-ROWS.false ((let h : length (fields_of met.args.line.now)
     ≡ (row_at met.row_of-row.result).many + 1 =
-        sym met.count_pieces.ensures ∙ met.if-count_pieces-many_of.false ∙ ap (λ (n : ℕ). n + 1) met.many_of.ensures in h))
+    sym met.count_pieces.ensures ∙ met.if-count_pieces-many_of.false ∙ ap (λ (n : ℕ). n + 1) met.many_of.ensures in h))
     (sym tested.are_fields.ensures ∙ c.if-not-are_fields.false))
     c.answer_fields.ensures

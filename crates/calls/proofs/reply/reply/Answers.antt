@@ -3,7 +3,6 @@
 use native.Mathlib.Omega.{arith}
 use Rattle.text.proofs.Puts.{put_none, put_then}
 use Rattle.calls.proofs.Answering.{reply_empty, reply_comment, reply_answer}
-use borrow.Author.Rules.{rules}
 use Rattle.calls.proofs.reply.reply.Goals as goal
 
 pub returns-then-line-eq0 : goal.returns-then-line-eq0

@@ -3,7 +3,6 @@
 use native.Mathlib.Omega.{arith}
 use Rattle.calls.specs.Rows.{row_at}
 use Rattle.calls.proofs.Putting.{put_fields}
-use borrow.Author.Rules.{rules}
 use Rattle.calls.proofs.rows.answer_in.Goals as goal
 
 pub answer_row-requires : goal.answer_row-requires

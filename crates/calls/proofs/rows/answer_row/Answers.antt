@@ -6,7 +6,6 @@ use lib.ListN.{length}
 use Rattle.text.proofs.Puts.{put_none}
 use Rattle.calls.specs.Rows.{call_rows, row_at}
 use Rattle.calls.proofs.Table.{row_past}
-use borrow.Author.Rules.{rules}
 use Rattle.calls.proofs.rows.answer_row.Goals as goal
 
 pub returns-in-0 : goal.returns-in-0

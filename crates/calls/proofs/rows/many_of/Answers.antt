@@ -2,7 +2,6 @@
 -- Assumes nothing.
 use lib.ListN.{get_or-map}
 use Rattle.calls.specs.Rows.{call_rows, no_row, row_at}
-use borrow.Author.Rules.{rules}
 use Rattle.calls.proofs.rows.many_of.Goals as goal
 
 pub returns : goal.returns

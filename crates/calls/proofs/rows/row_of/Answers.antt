@@ -1,7 +1,6 @@
 -- `calls::rows::row_of` meets its contract: the words are those of the rows.
 -- Assumes nothing.
 use Rattle.calls.specs.Rows.{row_of}
-use borrow.Author.Rules.{rules}
 use Rattle.calls.proofs.rows.row_of.Goals as goal
 
 pub returns : goal.returns

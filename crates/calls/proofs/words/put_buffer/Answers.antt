@@ -6,7 +6,6 @@ use lib.ListN.{take}
 use lib.Seq.{length-take-le}
 use Rattle.text.proofs.Puts.{put_then, put_length}
 use Rattle.text.proofs.Rooms.{hex_length}
-use borrow.Author.Rules.{rules}
 use Rattle.calls.proofs.words.put_buffer.Goals as goal
 
 pub slice_bounds-put_hex-end : goal.slice_bounds-put_hex-end

@@ -3,7 +3,6 @@
 use native.Mathlib.Omega.{arith}
 use borrow.Author.Tests.{eq-eqb, ne_eqb}
 use Rattle.text.proofs.Rooms.{room_within}
-use borrow.Author.Rules.{rules}
 use Rattle.calls.proofs.words.put_counted.Goals as goal
 
 pub returns-then-said-eq-REFUSED : goal.returns-then-said-eq-REFUSED

@@ -1,7 +1,6 @@
 -- `calls::words::put_error` meets its contract: the word and then the reason.
 -- Assumes nothing.
 use Rattle.text.proofs.Puts.{put_then}
-use borrow.Author.Rules.{rules}
 use Rattle.calls.proofs.words.put_error.Goals as goal
 
 pub returns : goal.returns

@@ -1,18 +1,11 @@
 -- `engine::queue::drain` meets its contract: the boxes of the queue are taken until every rule is at rest.
 -- Assumes nothing.
-use mathlib.Core.Path.{◌≡◌, subst, ◌∙◌}
-use mathlib.Core.List.{List}
-use Prim.Native.Nat.{ℕ, ◌-◌, ◌≤◌}
+use mathlib.Core.Path.{subst, ◌∙◌}
+use Prim.Native.Nat.{ℕ}
 use native.Mathlib.Omega.{arith}
-use borrow.Author.Rules.{rules}
-use lib.ListN.{get_or}
-use Rattle.spec.specs.Records.{Rec}
-use Rattle.theory.specs.Steps.{Grown}
 use Rattle.theory.proofs.Growth.{grown_refl, grown_trans, grown_clash}
 use Rattle.index.specs.Index.{packed_rules}
 use Rattle.engine.specs.Queue.{VisitedTo}
-use Rattle.engine.specs.declared.step.Move.{Move}
-use Rattle.engine.specs.declared.step.Move.TheVariants.{Noted, Clash}
 use Rattle.engine.proofs.Running.{lent_ran}
 use Rattle.engine.proofs.Draining.{chained, drain_step, drain_end}
 use Rattle.engine.proofs.queue.drain.Goals as goal

@@ -1,7 +1,6 @@
 -- `engine::queue::visit` meets its contract: the rules along a box's chain have their step.
 -- Assumes nothing.
 use mathlib.Core.Path.{◌≡◌}
-use Prim.Native.Nat.{◌<◌}
 use native.Mathlib.Omega.{arith}
 use Rattle.index.specs.Index.{Top}
 use Rattle.index.proofs.Linking.{held_member}

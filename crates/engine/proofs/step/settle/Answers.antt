@@ -1,6 +1,5 @@
 -- `engine::step::settle` meets its contract: a box that has the state is left alone, and an open one is stored and noted.
 -- Assumes nothing.
-use borrow.Author.Rules.{rules}
 use Rattle.engine.proofs.Settled.{settle_still, settle_room, settle_new}
 use Rattle.engine.proofs.step.settle.Goals as goal
 

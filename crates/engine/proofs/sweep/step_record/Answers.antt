@@ -5,8 +5,6 @@ use mathlib.Core.Bool.{Bool, true, false}
 use mathlib.Core.List.{List}
 use Prim.Native.Nat.{ℕ, ◌<◌, ◌%◌}
 use native.Mathlib.Omega.{arith}
-use borrow.Author.Rules.{rules}
-use borrow.Author.Tests.{not-true, not-false}
 use Rattle.spec.specs.Records.{Rec, bad, is_rule}
 use Rattle.records.specs.Record.{as_rec}
 use Rattle.index.specs.Index.{rule_of}
@@ -40,15 +38,15 @@ returns-then-not-is_rule c =
 
 pub bounds-states-x : goal.bounds-states-x
 bounds-states-x c = look_x _ _ _ _ ((let h : StepInput (as_rule ((as_rec c.args.q))) c.args.states.now c.args.queue.now c.args.tail =
-        subst⁻¹ (λ (p : Rec). StepInput p c.args.states.now c.args.queue.now c.args.tail) (same ((as_rec c.args.q)) c.requires.good) c.requires in h)) (small _)
+    subst⁻¹ (λ (p : Rec). StepInput p c.args.states.now c.args.queue.now c.args.tail) (same ((as_rec c.args.q)) c.requires.good) c.requires in h)) (small _)
 
 pub bounds-states-y : goal.bounds-states-y
 bounds-states-y c = look_y _ _ _ _ ((let h : StepInput (as_rule ((as_rec c.args.q))) c.args.states.now c.args.queue.now c.args.tail =
-        subst⁻¹ (λ (p : Rec). StepInput p c.args.states.now c.args.queue.now c.args.tail) (same ((as_rec c.args.q)) c.requires.good) c.requires in h)) (small _)
+    subst⁻¹ (λ (p : Rec). StepInput p c.args.states.now c.args.queue.now c.args.tail) (same ((as_rec c.args.q)) c.requires.good) c.requires in h)) (small _)
 
 pub at_rest-requires : goal.at_rest-requires
 at_rest-requires c = look_states _ _ _ _ ((let h : StepInput (as_rule ((as_rec c.args.q))) c.args.states.now c.args.queue.now c.args.tail =
-        subst⁻¹ (λ (p : Rec). StepInput p c.args.states.now c.args.queue.now c.args.tail) (same ((as_rec c.args.q)) c.requires.good) c.requires in h)) (small _)
+    subst⁻¹ (λ (p : Rec). StepInput p c.args.states.now c.args.queue.now c.args.tail) (same ((as_rec c.args.q)) c.requires.good) c.requires in h)) (small _)
 
 pub returns-then-at_rest : goal.returns-then-at_rest
 returns-then-at_rest c =
@@ -57,7 +55,7 @@ returns-then-at_rest c =
     (let h : (t queue : List ℕ) (answer : Move) → let began = rule in
     Stepped (as_rule ((as_rec began.args.q))) began.args.states.now t began.args.queue.now queue began.args.tail answer →
     RecordStepped (is_rule ((as_rec began.args.q))) ((as_rec began.args.q)) began.args.states.now t began.args.queue.now queue began.args.tail answer =
-        λ t queue answer step.
+    λ t queue answer step.
     let began = rule in
     let q = (as_rec began.args.q) in
     let counts : is_rule q ≡ true = sym rule.is_rule.ensures ∙ rule.if-not-is_rule.false in
@@ -68,18 +66,21 @@ returns-then-at_rest c =
     (λ (p : Rec). Stepped p began.args.states.now t began.args.queue.now queue began.args.tail answer)
     (same q began.requires.good) step) in h) began.args.states.now began.args.queue.now (Noted began.args.tail)
     (look_fired _ _ _ _ ((let h : StepInput (as_rule ((as_rec began.args.q))) began.args.states.now began.args.queue.now began.args.tail =
-        subst⁻¹ (λ (p : Rec). StepInput p began.args.states.now began.args.queue.now began.args.tail) (same ((as_rec began.args.q)) began.requires.good) began.requires in h)) (small _) (c.at_rest.ensures c.if-at_rest.true))
+    subst⁻¹ (λ (p : Rec). StepInput p began.args.states.now began.args.queue.now began.args.tail) (same ((as_rec began.args.q)) began.requires.good) began.requires in h)) (small _) (c.at_rest.ensures c.if-at_rest.true))
 
 pub step-requires : goal.step-requires
-step-requires c = record { step_input = (let h : StepInput (as_rule ((as_rec c.args.q))) c.args.states.now c.args.queue.now c.args.tail =
-        subst⁻¹ (λ (p : Rec). StepInput p c.args.states.now c.args.queue.now c.args.tail) (same ((as_rec c.args.q)) c.requires.good) c.requires in h); z_bound = small _ }
+step-requires c = record {
+  step_input = (let h : StepInput (as_rule ((as_rec c.args.q))) c.args.states.now c.args.queue.now c.args.tail =
+      subst⁻¹ (λ (p : Rec). StepInput p c.args.states.now c.args.queue.now c.args.tail) (same ((as_rec c.args.q)) c.requires.good) c.requires in h);
+  z_bound = small _;
+}
 
 pub returns : goal.returns
 returns c =
     (let h : (t queue : List ℕ) (answer : Move) → let began = c in
     Stepped (as_rule ((as_rec began.args.q))) began.args.states.now t began.args.queue.now queue began.args.tail answer →
     RecordStepped (is_rule ((as_rec began.args.q))) ((as_rec began.args.q)) began.args.states.now t began.args.queue.now queue began.args.tail answer =
-        λ t queue answer step.
+    λ t queue answer step.
     let began = c in
     let q = (as_rec began.args.q) in
     let counts : is_rule q ≡ true = sym c.is_rule.ensures ∙ c.if-not-is_rule.false in

@@ -1,11 +1,11 @@
 -- `engine::sweep::sweep` meets its contract: every record has its step, on the states and the queue that the ones before have left.
 -- Assumes nothing.
-use mathlib.Core.Path.{◌≡◌, subst}
+use mathlib.Core.Path.{subst}
 use mathlib.Core.Bool.{Bool}
 use mathlib.Core.List.{List}
 use Prim.Native.Nat.{ℕ, ◌<◌}
 use native.Mathlib.Omega.{arith}
-use Rattle.spec.specs.Records.{Rec, is_rule, record_at, record_count}
+use Rattle.spec.specs.Records.{Rec, is_rule, record_count}
 use Rattle.engine.specs.Queue.{RecordStepped}
 use Rattle.engine.specs.declared.step.Move.{Move}
 use Rattle.engine.specs.declared.step.Move.TheVariants.{Noted, Clash}
@@ -30,8 +30,8 @@ record_at-requires c =
     let counted = c.count-all.ensures in
     let numbered : Numbered c.args.maker.now c.args.depot.now c.args.back c.loop-i.i c.if-back.number =
     elim c.if-back.branch [
-      then-back w ↦ next_back counted (omega arith) c.args.back w.if-back.true w.number-is
-    | else-back w ↦ next_forth counted (omega arith) c.args.back w.if-back.false w.number-is
+      | then-back w ↦ next_back counted (omega arith) c.args.back w.if-back.true w.number-is
+      | else-back w ↦ next_forth counted (omega arith) c.args.back w.if-back.false w.number-is
     ] in
     record { whole_records = c.requires.accepted.whole; number_bound = numbered.0 }
 
@@ -40,8 +40,8 @@ step_record-answer-requires c =
     let counted = c.count-all.ensures in
     let numbered : Numbered c.args.maker.now c.args.depot.now c.args.back c.loop-i.i c.if-back.number =
     elim c.if-back.branch [
-      then-back w ↦ next_back counted (omega arith) c.args.back w.if-back.true w.number-is
-    | else-back w ↦ next_forth counted (omega arith) c.args.back w.if-back.false w.number-is
+      | then-back w ↦ next_back counted (omega arith) c.args.back w.if-back.true w.number-is
+      | else-back w ↦ next_forth counted (omega arith) c.args.back w.if-back.false w.number-is
     ] in
     record {
       good = rw c.record_at.ensures (c.requires.accepted.good c.if-back.number numbered.0);
@@ -53,8 +53,8 @@ returns-in-Clash c =
     let counted = c.count-all.ensures in
     let numbered : Numbered c.args.maker.now c.args.depot.now c.args.back c.loop-i.i c.if-back.number =
     elim c.if-back.branch [
-      then-back w ↦ next_back counted (omega arith) c.args.back w.if-back.true w.number-is
-    | else-back w ↦ next_forth counted (omega arith) c.args.back w.if-back.false w.number-is
+      | then-back w ↦ next_back counted (omega arith) c.args.back w.if-back.true w.number-is
+      | else-back w ↦ next_forth counted (omega arith) c.args.back w.if-back.false w.number-is
     ] in
     let l = c.loop-i in
     sweep_clash _ _ l.invariant.2 c.if-back.number numbered.0 _ _
@@ -66,8 +66,8 @@ loop-i-preserved c =
     let counted = c.count-all.ensures in
     let numbered : Numbered c.args.maker.now c.args.depot.now c.args.back c.loop-i.i c.if-back.number =
     elim c.if-back.branch [
-      then-back w ↦ next_back counted (omega arith) c.args.back w.if-back.true w.number-is
-    | else-back w ↦ next_forth counted (omega arith) c.args.back w.if-back.false w.number-is
+      | then-back w ↦ next_back counted (omega arith) c.args.back w.if-back.true w.number-is
+      | else-back w ↦ next_forth counted (omega arith) c.args.back w.if-back.false w.number-is
     ] in
     let l = c.loop-i in
     let so_far =

@@ -1,15 +1,6 @@
-use mathlib.Core.Path.{◌≡◌, subst}
-use mathlib.Core.Logic.{⊎_elim}
-use mathlib.Core.List.{List}
-use Prim.Native.Nat.{ℕ, ◌-◌, ◌≤◌, ◌<◌}
-use native.Mathlib.Omega.{arith}
-use borrow.Author.Rules.{rules}
-use Rattle.spec.specs.Records.{Rec, is_rule, record_at, record_count}
-use Rattle.engine.specs.Queue.{Lent, RecordStepped}
-use Rattle.engine.specs.declared.step.Move.{Move}
-use Rattle.engine.specs.declared.step.Move.TheVariants.{Noted, Clash}
-use Rattle.engine.proofs.Running.{lent_ran}
-use Rattle.engine.proofs.Sweeping.{SoFar, IsNext, next_forth, next_back, sweep_start, sweep_step, sweep_clash, sweep_end}
+use Prim.Native.Nat.{◌-◌, ◌≤◌}
+use Rattle.engine.specs.Queue.{Lent}
+use Rattle.engine.proofs.Sweeping.{SoFar}
 use Rattle.engine.proofs.sweep.sweep.Given as goal
 
 abbrev pub invariant-loop-i : goal.invariant-loop-i

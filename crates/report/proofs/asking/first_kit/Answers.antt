@@ -1,6 +1,5 @@
 -- `report::asking::first_kit` meets its contract, by First's.
 -- Assumes nothing.
-use borrow.Author.Rules.{rules}
 use Rattle.report.proofs.Heads.{first_at}
 use Rattle.report.proofs.asking.first_kit.Goals as goal
 

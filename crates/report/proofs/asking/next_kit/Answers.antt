@@ -3,7 +3,6 @@
 use mathlib.Core.Path.{subst}
 use mathlib.Core.List.{List}
 use Prim.Native.Nat.{ℕ}
-use borrow.Author.Rules.{rules}
 use Rattle.lists.specs.Answer.{NextDoes}
 use Rattle.report.proofs.Heads.{next_at}
 use Rattle.report.proofs.asking.next_kit.Goals as goal

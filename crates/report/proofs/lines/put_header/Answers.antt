@@ -3,7 +3,6 @@
 use native.Mathlib.Omega.{arith}
 use Rattle.report.specs.Listing.{header_line}
 use Rattle.text.proofs.Rooms.{room_of, room_then}
-use borrow.Author.Rules.{rules}
 use Rattle.report.proofs.lines.put_header.Goals as goal
 
 pub returns : goal.returns

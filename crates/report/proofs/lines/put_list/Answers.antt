@@ -1,7 +1,6 @@
 -- `report::lines::put_list` meets its contract: the digits, then a line feed.
 -- Assumes nothing.
 use native.Mathlib.Omega.{arith}
-use borrow.Author.Rules.{rules}
 use Rattle.text.proofs.Puts.{put_then, put_length}
 use Rattle.report.specs.Listing.{list_line}
 use Rattle.report.proofs.Digits.{digits_length}

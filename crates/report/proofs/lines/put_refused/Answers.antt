@@ -3,7 +3,6 @@
 use native.Mathlib.Omega.{arith}
 use Rattle.text.proofs.Rooms.{room_of, room_then}
 use Rattle.report.specs.Listing.{refused_line}
-use borrow.Author.Rules.{rules}
 use Rattle.report.proofs.lines.put_refused.Goals as goal
 
 pub returns : goal.returns

@@ -1,6 +1,5 @@
 -- `report::listing::listing` meets its contract: what is put at the start is the whole listing.
 -- Assumes nothing.
-use borrow.Author.Rules.{rules}
 use Rattle.report.specs.Listing.{listing_of}
 use Rattle.text.proofs.Rooms.{room_front}
 use Rattle.report.proofs.Rooms.{front_size, front_boxed}

@@ -1,16 +1,12 @@
 -- `report::listing::put_kits` meets its contract. The loop's invariant: the first k kits are put, and the next one is at hand if
 -- there is one. The measure is what is left of the 64.
 -- Assumes nothing.
-use mathlib.Core.Path.{◌≡◌, sym, ◌∙◌}
-use Prim.Native.Nat.{◌-◌}
+use mathlib.Core.Path.{sym, ◌∙◌}
 use native.Mathlib.Omega.{arith}
-use borrow.Author.Tests.{not-true, not-false}
-use lib.ListN.{length}
-use Rattle.spec.specs.Kits.{kits}
 use Rattle.text.proofs.Puts.{put_length}
 use Rattle.text.proofs.Rooms.{room_length}
 use Rattle.report.proofs.Filling.{passed_boxes}
-use Rattle.report.proofs.Showing.{Showing, showing_start, showing_length, showing_full, showing_digits, showing_next, showing_more, showing_end}
+use Rattle.report.proofs.Showing.{showing_start, showing_length, showing_full, showing_digits, showing_next, showing_more, showing_end}
 use Rattle.report.proofs.listing.put_kits.Goals as goal
 
 pub first_kit-found-requires : goal.first_kit-found-requires
@@ -45,21 +41,28 @@ returns-then-not-found c = showing_end c.loop-k.invariant.0 c.if-not-found.true
 pub put_list-at-requires : goal.put_list-at-requires
 put_list-at-requires c =
     let start = c in
-    let so = c.loop-k.invariant in record { list_in_bounds = omega (
+    let so = c.loop-k.invariant in record {
+      list_in_bounds = omega (
         arith,
         start.requires.lists_page_in_bounds,
         passed_boxes start.args.maker.now start.args.depot.now start.args.sheet.now start.requires.listable.passes,
         so.0.room,
         so.1,
         showing_length so.0,
-      ); by_index = showing_digits start.args.maker.now start.args.depot.now start.args.sheet.now so.0 c.if-not-found.false }
+      );
+      by_index = showing_digits start.args.maker.now start.args.depot.now start.args.sheet.now so.0 c.if-not-found.false;
+    }
 
 pub next_kit-found-requires : goal.next_kit-found-requires
 next_kit-found-requires c =
     let halfway = c in
     let start = halfway in
-    let so = c.loop-k.invariant in record { listable = record { passes = start.requires.listable.passes; size = so.1 }; given_len = so.2; full = showing_full start.args.maker.now start.args.depot.now start.args.sheet.now so.0
-            c.if-not-found.false }
+    let so = c.loop-k.invariant in record {
+      listable = record { passes = start.requires.listable.passes; size = so.1 };
+      given_len = so.2;
+      full = showing_full start.args.maker.now start.args.depot.now start.args.sheet.now so.0
+          c.if-not-found.false;
+    }
 
 pub loop-k-preserved : goal.loop-k-preserved
 loop-k-preserved c =

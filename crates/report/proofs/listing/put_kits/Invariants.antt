@@ -1,13 +1,8 @@
-use mathlib.Core.Path.{◌≡◌, sym, ◌∙◌}
+use mathlib.Core.Path.{◌≡◌}
 use Prim.Native.Nat.{◌-◌}
-use native.Mathlib.Omega.{arith}
-use borrow.Author.Tests.{not-true, not-false}
 use lib.ListN.{length}
 use Rattle.spec.specs.Kits.{kits}
-use Rattle.text.proofs.Puts.{put_length}
-use Rattle.text.proofs.Rooms.{room_length}
-use Rattle.report.proofs.Filling.{passed_boxes}
-use Rattle.report.proofs.Showing.{Showing, showing_start, showing_length, showing_full, showing_digits, showing_next, showing_more, showing_end}
+use Rattle.report.proofs.Showing.{Showing}
 use Rattle.report.proofs.listing.put_kits.Given as goal
 
 abbrev pub invariant-loop-k : goal.invariant-loop-k

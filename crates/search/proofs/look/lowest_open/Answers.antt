@@ -1,11 +1,9 @@
 -- `search::look::lowest_open` meets its contract: no box passed is open.
 -- Assumes nothing.
-use mathlib.Core.Path.{◌≡◌, ◌∙◌}
-use Prim.Native.Nat.{ℕ, ◌-◌, ◌≤◌, ◌<◌}
+use mathlib.Core.Path.{◌∙◌}
 use native.Mathlib.Omega.{arith}
 use borrow.Author.Rules.{rules}
 use borrow.Author.Count.{below_more}
-use lib.ListN.{get_or}
 use Rattle.lemmas.proofs.Reading.{get_d_default}
 use Rattle.search.proofs.look.lowest_open.Goals as goal
 

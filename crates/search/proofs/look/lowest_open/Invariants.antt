@@ -1,10 +1,6 @@
-use mathlib.Core.Path.{◌≡◌, ◌∙◌}
+use mathlib.Core.Path.{◌≡◌}
 use Prim.Native.Nat.{ℕ, ◌-◌, ◌≤◌, ◌<◌}
-use native.Mathlib.Omega.{arith}
-use borrow.Author.Rules.{rules}
-use borrow.Author.Count.{below_more}
 use lib.ListN.{get_or}
-use Rattle.lemmas.proofs.Reading.{get_d_default}
 use Rattle.search.proofs.look.lowest_open.Given as goal
 
 abbrev pub invariant-loop-b : goal.invariant-loop-b

@@ -2,8 +2,6 @@
 -- Assumes nothing.
 use mathlib.Core.Path.{◌≡◌, refl, sym}
 use mathlib.Core.Logic.{inr}
-use mathlib.Core.List.{List}
-use Prim.Native.Nat.{ℕ, ◌-◌, ◌≤◌, ◌<◌}
 use native.Mathlib.Omega.{arith}
 use borrow.Author.Rules.{rules}
 use borrow.Author.Count.{below_more}
@@ -22,10 +20,24 @@ bounds-given-c c = omega (arith, (c).requires.b_in_bounds_2)
 
 pub returns-then-states-c : goal.returns-then-states-c
 returns-then-states-c c =
-    let here = c in
-    (refl, (here.loop-c.c, omega arith, record { same = here.loop-c.invariant.1; less = omega (arith, c.if-states-c.true, (let h : get_or (here.args.states.now) (here.loop-c.c) 0 ≡ get_or (here.args.states.now) (here.loop-c.c) 2 =
-        get_d_default (here.args.states.now) (here.loop-c.c) 0 2 (omega (arith, here.requires.b_in_bounds)) in h), (let h : get_or (here.args.given.now) (here.loop-c.c) 0 ≡ get_or (here.args.given.now) (here.loop-c.c) 2 =
-        get_d_default (here.args.given.now) (here.loop-c.c) 0 2 (omega (arith, here.requires.b_in_bounds_2)) in h)) }))
+    let here = c in (
+      refl,
+      (
+        here.loop-c.c,
+        omega arith,
+        record {
+          same = here.loop-c.invariant.1;
+          less = omega (
+            arith,
+            c.if-states-c.true,
+            (let h : get_or (here.args.states.now) (here.loop-c.c) 0 ≡ get_or (here.args.states.now) (here.loop-c.c) 2 =
+                get_d_default (here.args.states.now) (here.loop-c.c) 0 2 (omega (arith, here.requires.b_in_bounds)) in h),
+            (let h : get_or (here.args.given.now) (here.loop-c.c) 0 ≡ get_or (here.args.given.now) (here.loop-c.c) 2 =
+                get_d_default (here.args.given.now) (here.loop-c.c) 0 2 (omega (arith, here.requires.b_in_bounds_2)) in h),
+          );
+        },
+      ),
+    )
 
 pub bounds-given-c-in-loop-c : goal.bounds-given-c-in-loop-c
 bounds-given-c-in-loop-c c = let here = c in omega (arith, here.requires.b_in_bounds_2)
@@ -39,9 +51,17 @@ returns-then-given-c c =
     inr (
       here.loop-c.c,
       omega arith,
-      record { same = λ i h. sym (here.loop-c.invariant.1 i h); less = omega (arith, c.if-given-c.true, (let h : get_or (here.args.states.now) (here.loop-c.c) 0 ≡ get_or (here.args.states.now) (here.loop-c.c) 2 =
-        get_d_default (here.args.states.now) (here.loop-c.c) 0 2 (omega (arith, here.requires.b_in_bounds)) in h), (let h : get_or (here.args.given.now) (here.loop-c.c) 0 ≡ get_or (here.args.given.now) (here.loop-c.c) 2 =
-        get_d_default (here.args.given.now) (here.loop-c.c) 0 2 (omega (arith, here.requires.b_in_bounds_2)) in h)) },
+      record {
+        same = λ i h. sym (here.loop-c.invariant.1 i h);
+        less = omega (
+          arith,
+          c.if-given-c.true,
+          (let h : get_or (here.args.states.now) (here.loop-c.c) 0 ≡ get_or (here.args.states.now) (here.loop-c.c) 2 =
+              get_d_default (here.args.states.now) (here.loop-c.c) 0 2 (omega (arith, here.requires.b_in_bounds)) in h),
+          (let h : get_or (here.args.given.now) (here.loop-c.c) 0 ≡ get_or (here.args.given.now) (here.loop-c.c) 2 =
+              get_d_default (here.args.given.now) (here.loop-c.c) 0 2 (omega (arith, here.requires.b_in_bounds_2)) in h),
+        );
+      },
     )
 
 pub loop-c-preserved : goal.loop-c-preserved
@@ -50,9 +70,15 @@ loop-c-preserved c =
     let passed1 = c in (
       search rules,
       below_more _ _ here.loop-c.invariant.1
-          (omega (arith, c.if-given-c.false, passed1.if-states-c.false, (let h : get_or (here.args.states.now) (here.loop-c.c) 0 ≡ get_or (here.args.states.now) (here.loop-c.c) 2 =
-        get_d_default (here.args.states.now) (here.loop-c.c) 0 2 (omega (arith, here.requires.b_in_bounds)) in h), (let h : get_or (here.args.given.now) (here.loop-c.c) 0 ≡ get_or (here.args.given.now) (here.loop-c.c) 2 =
-        get_d_default (here.args.given.now) (here.loop-c.c) 0 2 (omega (arith, here.requires.b_in_bounds_2)) in h))),
+          (omega (
+            arith,
+            c.if-given-c.false,
+            passed1.if-states-c.false,
+            (let h : get_or (here.args.states.now) (here.loop-c.c) 0 ≡ get_or (here.args.states.now) (here.loop-c.c) 2 =
+                get_d_default (here.args.states.now) (here.loop-c.c) 0 2 (omega (arith, here.requires.b_in_bounds)) in h),
+            (let h : get_or (here.args.given.now) (here.loop-c.c) 0 ≡ get_or (here.args.given.now) (here.loop-c.c) 2 =
+                get_d_default (here.args.given.now) (here.loop-c.c) 0 2 (omega (arith, here.requires.b_in_bounds_2)) in h),
+          )),
     )
 
 pub returns : goal.returns

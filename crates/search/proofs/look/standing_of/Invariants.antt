@@ -1,12 +1,6 @@
-use mathlib.Core.Path.{◌≡◌, refl, sym}
-use mathlib.Core.Logic.{inr}
-use mathlib.Core.List.{List}
+use mathlib.Core.Path.{◌≡◌}
 use Prim.Native.Nat.{ℕ, ◌-◌, ◌≤◌, ◌<◌}
-use native.Mathlib.Omega.{arith}
-use borrow.Author.Rules.{rules}
-use borrow.Author.Count.{below_more}
 use lib.ListN.{get_or}
-use Rattle.lemmas.proofs.Reading.{get_d_default}
 use Rattle.search.proofs.look.standing_of.Given as goal
 
 abbrev pub invariant-loop-c : goal.invariant-loop-c

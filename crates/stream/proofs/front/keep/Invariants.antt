@@ -1,9 +1,5 @@
-use mathlib.Core.Path.{◌≡◌, refl}
-use Prim.Native.Nat.{◌+◌, ◌-◌, ◌≤◌, ◌<◌}
-use native.Mathlib.Omega.{arith}
-use borrow.Author.Rules.{rules}
-use lib.ListN.{length}
-use Rattle.stream.proofs.Keeping.{Kept, kept_none, kept_next}
+use Prim.Native.Nat.{◌-◌, ◌≤◌}
+use Rattle.stream.proofs.Keeping.{Kept}
 use Rattle.stream.proofs.front.keep.Given as goal
 
 abbrev pub invariant-loop-i : goal.invariant-loop-i
