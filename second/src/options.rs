@@ -32,8 +32,8 @@ pub fn read_arguments() -> Result<Job, String> {
         seed: 1,
         calls: coverage::FULL_RUN,
         folders: check_folders::FULL_RUN,
-        probe: "tools/run target/bin/probe".to_string(),
-        listing: "tools/run target/bin/listing".to_string(),
+        probe: "tools/run crates/probe/out/probe".to_string(),
+        listing: "tools/run crates/listing/out/listing".to_string(),
         limit: 300,
         regress: PathBuf::from("second/regress"),
     };
