@@ -1,6 +1,6 @@
 /* The desk library for C: every public operation, its answers, and who owns what.
  *
- * Link with libport.a (`rt staticlib port` writes target/staticlib/libport.a, for x86-64 Linux).
+ * Link with libport.a (`tools/library` builds it for x86-64 Linux, and prints where it is).
  *
  * A table, sheet or list is lent as a pointer and a length in bytes. Any bytes of any length may be lent: a call that is bad in
  * form is refused by number and place, and a refusal leaves `out` as it was. Nothing is kept after a call, and nothing is
