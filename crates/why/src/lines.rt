@@ -5,7 +5,7 @@ ghost use Rattle.why.specs.Read.{as_line};
 
 use records::word;
 
-#[derive(Drop)]
+#[derive(Clone, Copy)]
 pub struct Reason {
     pub b: usize,
     pub state: u8,
