@@ -1,12 +1,10 @@
 -- What the maker says of a call in form, and that its list fits at the head of the buffer.
 -- Assumes nothing.
 use mathlib.Core.Path.{◌≡◌, refl, sym, ap, ◌∙◌}
-use mathlib.Core.Bool.{Bool, true, false, cond}
 use mathlib.Core.List.{List, [], ◌∷◌, ◌++◌}
-use Prim.Native.Nat.{ℕ, zero, suc, ◌+◌, ◌*◌, ◌≤◌}
+use Prim.Native.Nat.{ℕ, ◌+◌, ◌*◌}
 use native.Mathlib.Omega.{arith}
-use lib.Dec.{ltb}
-use lib.ListN.{length, set, drop, length-append}
+use lib.ListN.{length, drop}
 use lib.Seq.{sets-eq}
 use Rattle.lemmas.proofs.Tests.{true_T}
 use Rattle.spec.specs.Records.{rules_in}
@@ -18,7 +16,7 @@ use Rattle.spec.proofs.Judge.{judge_passes, judge_left, judge_right}
 use Rattle.spec.proofs.Accepted.{AcceptedSheet, sheet_accepted}
 use Rattle.theory.proofs.Filling.{clash_finds, no_clash}
 use Rattle.whylists.proofs.Bytes.{lines_few, bytes_length}
-use Rattle.whylists.specs.Ours.{next_box, state_by, next_line, lines_from, ours, lines_bytes, line_bytes}
+use Rattle.whylists.specs.Ours.{ours, lines_bytes}
 use Rattle.whylists.specs.Says.{why_checks, why_judges, at_head}
 use Rattle.why.specs.Made.{Made}
 use Rattle.why.specs.Answer.{explained_says, WhyDoesInForm}

@@ -1,5 +1,6 @@
 // Why-lists: our list of reasons for what Fill settles, and the check of anyone's.
 #![tactic(auto)]
+
 mod check;
 mod given;
 mod lines;

@@ -8,19 +8,18 @@ use native.Mathlib.Omega.{arith}
 use borrow.Author.Tests.{not-true, not-false}
 use Rattle.spec.specs.Records.{Rec, bad, is_rule}
 use Rattle.records.specs.Record.{as_rec}
-use Rattle.engine.specs.Moves.{Cells}
 use Rattle.theory.specs.Steps.{z_missing}
 use Rattle.theory.proofs.Places.{good_z}
 use Rattle.why.proofs.Asked.{given_code, asked_passed, x_below, y_below, state_below, asked_x, asked_y, asked_z, asked_none}
 use Rattle.why.proofs.given.given.Goals as goal
 
 -- the box is z, by the code's test
-module _ (q : Rec) (s : List ℕ) (good : bad 256 q ≡ false) (cells : Cells s) (counts : is_rule q ≡ true) (there : z_missing q ≡ false) where
-  same_z : q.z % 256 ≡ q.z
-  same_z = let within = good_z 256 q good there in omega (arith, within)
-
-  given_at_z : (b g : ℕ) → b ≡ q.z % 256 → g ≡ given_code q s q.z → g ≡ given_code q s b
-  given_at_z b g e given = subst⁻¹ (λ (i : ℕ). g ≡ given_code q s i) (e ∙ same_z) given
+given_at_z : (q : Rec) (s : List ℕ) → bad 256 q ≡ false → z_missing q ≡ false → (b g : ℕ) → b ≡ q.z % 256 → g ≡ given_code q s q.z →
+    g ≡ given_code q s b
+given_at_z q s good there b g e given =
+    let within = good_z 256 q good there in
+    let same : b ≡ q.z = omega arith in
+    subst⁻¹ (λ (i : ℕ). g ≡ given_code q s i) same given
 
 pub returns-then-not-is_rule-clause-value : goal.returns-then-not-is_rule-clause-value
 returns-then-not-is_rule-clause-value c =
@@ -83,7 +82,7 @@ returns-then-b-z-clause-value c =
     let cells = c.requires.cells in
     let counts : is_rule (as_rec c.args.q) ≡ true = sym c.is_rule.ensures ∙ c.if-not-is_rule.false in
     let there : z_missing (as_rec c.args.q) ≡ false = not-true _ (sym c.has_z.ensures ∙ c.if-has_z.true) in
-    given_at_z q s good cells counts there c.args.b c.given_z.result c.if-b-z.true
+    given_at_z q s good there c.args.b c.given_z.result c.if-b-z.true
     (c.given_z.ensures.value ∙ asked_z q s good cells counts there)
 
 pub returns-else-b-z-clause-value : goal.returns-else-b-z-clause-value

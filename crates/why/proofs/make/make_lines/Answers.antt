@@ -1,11 +1,8 @@
 -- `why::make::make_lines` meets its contract: line by line, as long as one follows.
 -- Assumes nothing.
-use mathlib.Core.Path.{◌≡◌, sym, ap}
 use native.Mathlib.Omega.{arith}
-use lib.ListN.{length}
 use Rattle.spec.proofs.Accepted.{accepted_all}
-use Rattle.text.proofs.Puts.{put_length}
-use Rattle.why.proofs.Made.{Making, making_start, making_full, making_none, making_next}
+use Rattle.why.proofs.Made.{making_start, making_none, making_next}
 use Rattle.why.proofs.make.make_lines.Goals as goal
 
 pub loop-k-init : goal.loop-k-init

@@ -3,10 +3,9 @@
 use mathlib.Core.Path.{◌≡◌, subst}
 use Prim.Native.Nat.{ℕ}
 use native.Mathlib.Omega.{arith}
-use Rattle.lemmas.specs.Lowest.{lowest}
-use Rattle.spec.specs.Records.{record_at, record_count}
+use Rattle.spec.specs.Records.{record_count}
 use Rattle.spec.proofs.Accepted.{accepted_all}
-use Rattle.why.specs.Next.{offers, LowestGiven}
+use Rattle.why.specs.Next.{LowestGiven}
 use Rattle.why.proofs.Offers.{given_start, given_lower, given_kept}
 use Rattle.why.proofs.next.next_line.Goals.{then-c-b, else-c-b}
 use Rattle.why.proofs.next.next_line.Goals as goal
@@ -27,7 +26,7 @@ loop-i-preserved c =
       within = omega arith;
       given =
           elim c.if-c-b.branch [
-            then-c-b w ↦ rw (w.b-is, w.number-is) (given_lower a.maker.now a.depot.now a.states.now a.n so found w.if-c-b.true)
+            | then-c-b w ↦ rw (w.b-is, w.number-is) (given_lower a.maker.now a.depot.now a.states.now a.n so found w.if-c-b.true)
             | else-c-b w ↦ rw (w.b-is, w.number-is) (given_kept a.maker.now a.depot.now a.states.now a.n so found w.if-c-b.false)
           ];
     }

@@ -1,8 +1,7 @@
 -- `why::next::offer` meets its contract: the box is taken where it is lower, open, and given a state.
 -- Assumes nothing.
-use mathlib.Core.Path.{◌≡◌, refl, sym, ◌∙◌}
+use mathlib.Core.Path.{refl, sym, ◌∙◌}
 use native.Mathlib.Omega.{arith}
-use lib.ListN.{get_or}
 use Rattle.engine.proofs.Settled.{cells_read}
 use Rattle.why.proofs.Offers.{offers_settled, offers_none, offers_some}
 use Rattle.why.proofs.next.offer.Goals as goal
