@@ -11,11 +11,9 @@ use lib.Dec.{ltb, eqb, ltb→lt}
 use lib.ListN.{length, get_or, set, length-set}
 use lib.Seq.{get_or-set_same, get_or-set_other}
 use Rattle.lemmas.specs.Lists.{any, upto}
-use Rattle.lemmas.proofs.Lowest.{Searched, searched_start, searched_next}
+use Rattle.lemmas.proofs.Lowest.{Searched, searched_next}
 use Rattle.lemmas.proofs.Reading.{get_d_set}
 use Rattle.spec.specs.Records.{record_at, record_count}
-use Rattle.theory.specs.Steps.{IsSheet, Loaded}
-use Rattle.theory.proofs.Loading.{loaded_sheet}
 use Rattle.engine.specs.Moves.{Cells}
 use Rattle.whylists.specs.Lines.{line_at, line_count, known, given_by, right_after, right}
 use Rattle.why.specs.Read.{right_on}
@@ -35,14 +33,6 @@ module _ (maker depot sheet l : List ℕ) where
     pub cells : Cells s
     pub same : (b : ℕ) → get_or s b 2 ≡ get_or (known sheet l k) b 2
     pub searched : Searched wrong (line_count l) k
-
-  pub checked_start : {s : List ℕ} → Loaded sheet s → IsSheet sheet → Checked s 0
-  checked_start loaded sheets =
-      record {
-        cells = record { size = loaded.size; sheet = loaded_sheet loaded sheets };
-        same = loaded.same;
-        searched = searched_start;
-      }
 
   module _ {s : List ℕ} {k : ℕ} (so : Checked s k) where
     rights : (i : ℕ) → i < k → IsRight maker depot sheet l i

@@ -156,15 +156,6 @@ module _ (q : Rec) (s : List ℕ) (good : bad 256 q ≡ false) (cells : Cells s)
 
 -- record by record
 module _ (maker depot s : List ℕ) (n : ℕ) where
-  pub given_start : LowestGiven maker depot s n 0 n 0
-  given_start =
-      record {
-        within = omega arith;
-        none = λ c h j l. absurd (omega arith);
-        given = λ h. absurd (omega arith);
-        lowest = λ h. absurd (omega arith);
-      }
-
   module _ {i b number : ℕ} (so : LowestGiven maker depot s n i b number) where
     -- record i gives a lower box a state
     pub given_lower : {c : ℕ} → c ≡ lowest (offers s (record_at maker depot i)) b → c < b → LowestGiven maker depot s n (i + 1) c i

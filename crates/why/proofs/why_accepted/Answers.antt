@@ -9,7 +9,7 @@ use lib.ListN.{length}
 use Rattle.spec.specs.Records.{rules_in}
 use Rattle.spec.proofs.Accepted.{AcceptedSheet, accepted_all}
 use Rattle.theory.specs.Steps.{Loaded}
-use Rattle.theory.proofs.Loading.{loaded_sheet, loaded_clash, loaded_none}
+use Rattle.theory.proofs.Loading.{loaded_clash, loaded_none}
 use Rattle.engine.specs.Moves.{Rested}
 use Rattle.why.specs.Made.{Made}
 use Rattle.why.specs.Answer.{WhyDoesInForm}
@@ -32,13 +32,8 @@ module _ (maker depot sheet out : List ℕ) {n : ℕ} (accepted : AcceptedSheet 
   made_all t false rested e size left k made =
       does_lines maker depot sheet out (loaded_none loaded rested.0 rested.1) (omega (arith, size, accepted.sheet_length)) made
 
-pub run-requires : goal.run-requires
-run-requires c =
-    let accepted = c.requires.accepted_sheet in
-    record {
-      accepted = accepted_all accepted.tables;
-      cells = record { size = c.load.ensures.size; sheet = loaded_sheet c.load.ensures accepted.sheet_bytes };
-    }
+pub run-requires-clause-accepted : goal.run-requires-clause-accepted
+run-requires-clause-accepted c = accepted_all c.requires.accepted_sheet.tables
 
 pub returns-then-run : goal.returns-then-run
 returns-then-run c =

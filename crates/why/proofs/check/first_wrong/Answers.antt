@@ -12,7 +12,7 @@ use Rattle.spec.proofs.Accepted.{AcceptedSheet}
 use Rattle.whylists.specs.Lines.{Line, line_at, line_count, right}
 use Rattle.why.specs.Read.{right_on}
 use Rattle.whylists.proofs.Known.{is_right, right_within}
-use Rattle.why.proofs.Checking.{Checked, wrong, checked_start, right_same, checked_next}
+use Rattle.why.proofs.Checking.{Checked, wrong, right_same, checked_next}
 use Rattle.why.proofs.check.first_wrong.Goals as goal
 
 -- the check has come to line k, which has been read and judged
@@ -46,10 +46,6 @@ module _ (maker depot sheet l : List ℕ) {n : ℕ} (accepted : AcceptedSheet n 
     one_more =
         subst⁻¹ (λ (r : Line). Checked maker depot sheet l (set s r.box r.state) (k + 1)) read
         (checked_next maker depot sheet l so counted is (omega (arith, accepted.sheet_length, accepted.tables.boxes)))
-
-pub loop-k-init : goal.loop-k-init
-loop-k-init c =
-    checked_start c.args.maker.now c.args.depot.now c.args.sheet.now c.args.lines.now c.load.ensures c.requires.accepted_sheet.sheet_bytes
 
 pub returns-then-not-is_right : goal.returns-then-not-is_right
 returns-then-not-is_right c =
