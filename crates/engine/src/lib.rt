@@ -75,7 +75,7 @@ pub fn run<'a>(maker: &'a [u8], depot: &'a [u8], states: &mut [u8; 256]) -> bool
     }
     let mut left = more_sweeps(count(maker, depot));
     let mut back = true;
-    while start < end {
+    'sweeps: while start < end {
         if left == 0 {
             return run_queue(maker, depot, states, &mut queue, start, end);
         }

@@ -11,30 +11,30 @@ use Rattle.engine.proofs.run.Goals as goal
 pub sweep-first-requires : goal.sweep-first-requires
 sweep-first-requires c = record { accepted = c.requires.accepted; lent = lent_empty c.requires.cells refl }
 
-pub loop-start-init : goal.loop-start-init
-loop-start-init c = sweeps_first (lent_empty {queue = zeros} c.requires.cells refl) c.in-Noted.ensures
+pub sweeps-init : goal.sweeps-init
+sweeps-init c = sweeps_first (lent_empty {queue = zeros} c.requires.cells refl) c.in-Noted.ensures
 
 pub run_queue-requires : goal.run_queue-requires
 run_queue-requires c =
-    let so = c.loop-start.invariant in
+    let so = c.sweeps.invariant in
     record { accepted = c.requires.accepted; lent = so.lent; from_le_to = so.within; all_wait = so.waits }
 
 pub returns-then-left-eq0 : goal.returns-then-left-eq0
 returns-then-left-eq0 c =
     ran_rested c.in-Noted.ensures.ran c.run_queue.new.states c.run_queue.result
-    (sweeps_rested c.loop-start.invariant c.run_queue.new.states c.run_queue.result c.run_queue.ensures)
+    (sweeps_rested c.sweeps.invariant c.run_queue.new.states c.run_queue.result c.run_queue.ensures)
 
 pub sweep-answer-requires : goal.sweep-answer-requires
-sweep-answer-requires c = record { accepted = c.requires.accepted; lent = c.loop-start.invariant.lent }
+sweep-answer-requires c = record { accepted = c.requires.accepted; lent = c.sweeps.invariant.lent }
 
 pub returns-in-Clash-answer : goal.returns-in-Clash-answer
 returns-in-Clash-answer c =
-    ran_rested c.in-Noted.ensures.ran c.loop-start.states true
-    (sweeps_rested c.loop-start.invariant c.loop-start.states true c.in-Clash-answer.ensures)
+    ran_rested c.in-Noted.ensures.ran c.sweeps.states true
+    (sweeps_rested c.sweeps.invariant c.sweeps.states true c.in-Clash-answer.ensures)
 
-pub loop-start-preserved : goal.loop-start-preserved
-loop-start-preserved c = sweeps_next c.loop-start.invariant c.in-Noted-answer.ensures
+pub sweeps-preserved : goal.sweeps-preserved
+sweeps-preserved c = sweeps_next c.sweeps.invariant c.in-Noted-answer.ensures
 
 pub returns : goal.returns
 returns c =
-    ran_rested c.in-Noted.ensures.ran c.loop-start.states false (sweeps_end c.loop-start.invariant (omega arith))
+    ran_rested c.in-Noted.ensures.ran c.sweeps.states false (sweeps_end c.sweeps.invariant (omega arith))
