@@ -16,7 +16,7 @@ const MOST_BOXES: usize = 256;
 
 const MOST_RECORDS: usize = 1024;
 
-#[derive(Drop)]
+#[derive(Clone, Copy)]
 pub enum Form {
     Passed,
     Refused(Refusal),

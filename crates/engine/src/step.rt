@@ -9,7 +9,7 @@ use records::kinds::has_z;
 use records::states::BOTH;
 
 // The end of the queue once a step is done.
-#[derive(Drop)]
+#[derive(Clone, Copy)]
 pub enum Move {
     Noted(usize),
     Clash,

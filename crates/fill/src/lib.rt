@@ -15,7 +15,7 @@ use refusals::{Numbers, Refusal, done, of_refusal, refused};
 use sheet::{count_filled, count_open, load, store};
 use tables::Tables;
 
-#[derive(Drop)]
+#[derive(Clone, Copy)]
 pub enum Filled {
     Boxes(usize),
     Clash,

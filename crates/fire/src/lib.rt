@@ -9,7 +9,7 @@ ghost use Rattle.fire.specs.States.{three, list_of, OnSheet, closed_alone, Fired
 use records::kinds::{AND, EQU, NOT, OR};
 use records::states::{BOTH, IN, OUT};
 
-#[derive(Drop)]
+#[derive(Clone, Copy)]
 pub struct States {
     pub x: u8,
     pub y: u8,

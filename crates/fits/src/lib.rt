@@ -13,7 +13,7 @@ use records::{count, place_of};
 use refusals::{BROKEN, Numbers, Refusal, done, of_refusal, three};
 use tables::Tables;
 
-#[derive(Drop)]
+#[derive(Clone, Copy)]
 pub enum Tested {
     Fits,
     Broken(usize),

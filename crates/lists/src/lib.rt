@@ -14,7 +14,7 @@ use search::search;
 use sheet::{Sheet, load, store};
 use tables::Tables;
 
-#[derive(Drop)]
+#[derive(Clone, Copy)]
 pub enum Listed {
     List,
     None,

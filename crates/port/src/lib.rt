@@ -1,5 +1,5 @@
-// The operations for C. A slice is passed as a pointer and a length, and the answer is written into three numbers that the caller
-// lends. The out buffer and the answer must not overlap anything else that is lent.
+// The operations for C, which `port_c` exports. A slice is passed as a pointer and a length, and the answer is written into three
+// numbers that the caller lends. The out buffer and the answer must not overlap anything else that is lent.
 //
 //     Test   0 0 0 it fits              2 RECORD 0 that record is broken    1 NUMBER PLACE refused
 //     Show   TABLE START LENGTH, with 0 for the maker's table and 1 for the depot's; 0 0 0 where Test names no record
@@ -22,13 +22,7 @@ use desk::{fill, first, next, test};
 use records::place_of;
 use refusals::BROKEN;
 
-#[unsafe(no_mangle)]
-pub extern "C" fn angatupyi_test<'a>(
-    maker: &'a [u8],
-    depot: &'a [u8],
-    list: &[u8],
-    answer: &mut [u64; 3],
-)
+pub fn angatupyi_test<'a>(maker: &'a [u8], depot: &'a [u8], list: &[u8], answer: &mut [u64; 3])
     ensures { answer.new ≡ numbers_of verdict_numbers (test_says maker.now depot.now list.now) }
 {
     let said = fits::numbers(test(maker, depot, list));
@@ -36,13 +30,7 @@ pub extern "C" fn angatupyi_test<'a>(
 }
 
 // C has no slice to return, so the part is told by its table, start and length.
-#[unsafe(no_mangle)]
-pub extern "C" fn angatupyi_show<'a>(
-    maker: &'a [u8],
-    depot: &'a [u8],
-    list: &[u8],
-    answer: &mut [u64; 3],
-)
+pub fn angatupyi_show<'a>(maker: &'a [u8], depot: &'a [u8], list: &[u8], answer: &mut [u64; 3])
     ensures { answer.new ≡ three_of_part (shows_part maker.now depot.now list.now) }
 {
     let tested = fits::numbers(test(maker, depot, list));
@@ -58,8 +46,7 @@ pub extern "C" fn angatupyi_show<'a>(
     }
 }
 
-#[unsafe(no_mangle)]
-pub extern "C" fn angatupyi_fill<'a>(
+pub fn angatupyi_fill<'a>(
     maker: &'a [u8],
     depot: &'a [u8],
     sheet: &[u8],
@@ -72,8 +59,7 @@ pub extern "C" fn angatupyi_fill<'a>(
     *answer = [said.code, said.first, said.second];
 }
 
-#[unsafe(no_mangle)]
-pub extern "C" fn angatupyi_first<'a>(
+pub fn angatupyi_first<'a>(
     maker: &'a [u8],
     depot: &'a [u8],
     sheet: &[u8],
@@ -86,8 +72,7 @@ pub extern "C" fn angatupyi_first<'a>(
     *answer = [said.code, said.first, said.second];
 }
 
-#[unsafe(no_mangle)]
-pub extern "C" fn angatupyi_next<'a>(
+pub fn angatupyi_next<'a>(
     maker: &'a [u8],
     depot: &'a [u8],
     sheet: &[u8],

@@ -29,7 +29,7 @@ pub struct Record {
 }
 
 // Where a record starts: in the maker's table or the depot's, and at which byte of it.
-#[derive(Drop)]
+#[derive(Clone, Copy)]
 pub struct Where {
     pub depots: bool,
     pub start: usize,

@@ -10,7 +10,7 @@ ghost use Rattle.refusals.specs.Telling.{refusal_of, refused_numbers, done_with,
 
 use text::put_field;
 
-#[derive(Drop)]
+#[derive(Clone, Copy)]
 pub enum Refusal {
     BoxCount,
     MakerLength,
@@ -29,7 +29,7 @@ pub const REFUSED: u64 = 1;
 
 pub const BROKEN: u64 = 2;
 
-#[derive(Drop)]
+#[derive(Clone, Copy)]
 pub struct Numbers {
     pub code: u64,
     pub first: u64,

@@ -17,7 +17,7 @@ use look::{Standing, is_bound, is_past_out, lowest_open, standing_to};
 use records::states::{IN, OUT};
 use sheet::Sheet;
 
-#[derive(Drop)]
+#[derive(Clone, Copy)]
 pub struct Found {
     pub found: bool,
     pub sheet: Sheet,

@@ -6,7 +6,7 @@ ghost use Rattle.search.specs.Look.{LowestOpen, SameBelow, Stands, bound_of, Pas
 use records::states::{OPEN, OUT};
 
 // How the first boxes of a sheet stand to the given list. Where no list is to be passed they are past it from the start.
-#[derive(Drop)]
+#[derive(Clone, Copy)]
 pub enum Standing {
     Before,
     Same,

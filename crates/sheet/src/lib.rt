@@ -7,7 +7,7 @@ ghost use Rattle.theory.specs.Steps.{Loaded};
 
 use records::states::OPEN;
 
-#[derive(Drop)]
+#[derive(Clone, Copy)]
 pub struct Sheet {
     pub states: [u8; 256],
 }

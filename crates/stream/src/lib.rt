@@ -19,7 +19,7 @@ const REPLY: usize = CUT + 101;
 
 // How far the replies have come: what is left of the input starts at `from`, and they end at `at`. If `skipping`, what is left starts
 // inside a line whose reply is already put.
-#[derive(Drop)]
+#[derive(Clone, Copy)]
 struct Reached {
     from: usize,
     at: usize,
@@ -28,7 +28,7 @@ struct Reached {
 
 // What is left at hand after a turn: the first `size` bytes of the buffer. If `skipping`, they start inside a line whose reply is already
 // put. The replies end at `at`. If `waits`, there is nothing to do before more is read.
-#[derive(Drop)]
+#[derive(Clone, Copy)]
 pub struct Left {
     pub size: usize,
     pub skipping: bool,

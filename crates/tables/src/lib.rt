@@ -2,7 +2,7 @@
 // parts are what the rest of the operation is given. Only the function that makes the struct has it: what follows is on slices.
 #![tactic(auto)]
 
-#[derive(Drop)]
+#[derive(Clone, Copy)]
 pub struct Tables<'a> {
     pub maker: &'a [u8],
     pub depot: &'a [u8],

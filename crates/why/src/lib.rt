@@ -23,14 +23,14 @@ use refusals::Refusal;
 use sheet::load;
 use tables::Tables;
 
-#[derive(Drop)]
+#[derive(Clone, Copy)]
 pub enum Explained {
     Lines(usize),
     Clash,
     Refused(Refusal),
 }
 
-#[derive(Drop)]
+#[derive(Clone, Copy)]
 pub enum Vetted {
     Accepted,
     Length,

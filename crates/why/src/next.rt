@@ -13,7 +13,7 @@ use records::kinds::has_z;
 use records::states::OPEN;
 use records::{Record, count, record_at};
 
-#[derive(Drop)]
+#[derive(Clone, Copy)]
 pub struct Next {
     pub b: usize,
     pub number: usize,
