@@ -48,7 +48,8 @@ pub fn step(
     let d = new.y;
     let e = new.z;
     // from both facts of one box both of every box follow, so x alone tells
-    if c == BOTH {
+    let told = c;
+    if told == BOTH {
         return Move::Clash;
     }
     let after_x = settle(states, queue, tail, x, c);

@@ -56,32 +56,32 @@ bounds-states-y c = look_y _ _ _ _ c.requires.step_input c.requires.z_bound
 pub fire-new-requires : goal.fire-new-requires
 fire-new-requires c = look_states _ _ _ _ c.requires.step_input c.requires.z_bound
 
-pub returns-then-c-eq-BOTH : goal.returns-then-c-eq-BOTH
-returns-then-c-eq-BOTH c =
-    record {
-      clash = step_clash (firing c.args.kind c.args.x c.args.y c.args.z c.requires.step_input c.requires.z_bound c.fire-new.ensures) 0 c.if-c-eq-BOTH.true;
-      size = refl;
-    }
-
 pub settle-after_x-requires : goal.settle-after_x-requires
 unfolding rule_of
 settle-after_x-requires c =
     let input = c.requires.step_input in
     settling_x input (firing c.args.kind c.args.x c.args.y c.args.z input c.requires.z_bound c.fire-new.ensures)
-    (no_clash c.args.kind c.args.x c.args.y c.args.z input c.requires.z_bound c.fire-new.ensures c.if-c-eq-BOTH.false)
+    (no_clash c.args.kind c.args.x c.args.y c.args.z input c.requires.z_bound c.fire-new.ensures c.if-told-eq-BOTH.false)
+
+pub returns-then-told-eq-BOTH : goal.returns-then-told-eq-BOTH
+returns-then-told-eq-BOTH c =
+    record {
+      clash = step_clash (firing c.args.kind c.args.x c.args.y c.args.z c.requires.step_input c.requires.z_bound c.fire-new.ensures) 0 c.if-told-eq-BOTH.true;
+      size = refl;
+    }
 
 pub settle-after_y-requires : goal.settle-after_y-requires
 unfolding rule_of
 settle-after_y-requires c =
     let input = c.requires.step_input in
     settling_y input (firing c.args.kind c.args.x c.args.y c.args.z input c.requires.z_bound c.fire-new.ensures)
-    (no_clash c.args.kind c.args.x c.args.y c.args.z input c.requires.z_bound c.fire-new.ensures c.if-c-eq-BOTH.false) c.settle-after_x.ensures
+    (no_clash c.args.kind c.args.x c.args.y c.args.z input c.requires.z_bound c.fire-new.ensures c.if-told-eq-BOTH.false) c.settle-after_x.ensures
 
 pub settle-requires : goal.settle-requires
 unfolding rule_of
 settle-requires c =
     let input = c.requires.step_input in
-    let apart = c.if-c-eq-BOTH.false in
+    let apart = c.if-told-eq-BOTH.false in
     let there : z_missing (rule_of c.args.kind c.args.x c.args.y c.args.z) ≡ false =
     not-true _ (sym c.has_z.ensures ∙ c.if-has_z.true) in
     settling_z input (firing_z c.args.kind c.args.x c.args.y c.args.z input c.requires.z_bound c.fire-new.ensures apart there)
@@ -92,7 +92,7 @@ pub returns-then-has_z : goal.returns-then-has_z
 unfolding rule_of
 returns-then-has_z c =
     let input = c.requires.step_input in
-    let apart = c.if-c-eq-BOTH.false in
+    let apart = c.if-told-eq-BOTH.false in
     let there : z_missing (rule_of c.args.kind c.args.x c.args.y c.args.z) ≡ false =
     not-true _ (sym c.has_z.ensures ∙ c.if-has_z.true) in
     triple_fired input (firing_z c.args.kind c.args.x c.args.y c.args.z input c.requires.z_bound c.fire-new.ensures apart there)
@@ -104,5 +104,5 @@ unfolding rule_of
 returns c =
     let input = c.requires.step_input in
     pair_fired input (firing c.args.kind c.args.x c.args.y c.args.z input c.requires.z_bound c.fire-new.ensures)
-    (no_clash c.args.kind c.args.x c.args.y c.args.z input c.requires.z_bound c.fire-new.ensures c.if-c-eq-BOTH.false) c.settle-after_x.ensures c.settle-after_y.ensures
+    (no_clash c.args.kind c.args.x c.args.y c.args.z input c.requires.z_bound c.fire-new.ensures c.if-told-eq-BOTH.false) c.settle-after_x.ensures c.settle-after_y.ensures
     (not-false _ (sym c.has_z.ensures ∙ c.if-has_z.false))
