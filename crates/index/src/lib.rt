@@ -8,9 +8,11 @@ ghost use Rattle.spec.proofs.Accepted.{Accepted};
 ghost use Rattle.spec.proofs.Named.{Good};
 ghost use Rattle.records.specs.Record.{as_rec};
 ghost use Rattle.index.specs.Index.{rule_at, packed_rules, Packed, Linked, Held};
+ghost use Rattle.index.specs.Whole.{Indexed};
 
 use records::kinds::has_z;
 use records::{Record, count, is_rule, record_at};
+use tables::Tables;
 
 // The bytes of a packed rule: kind, x, y, z. Where z is missing its byte is of no matter.
 const RULE: usize = 4;
@@ -53,16 +55,13 @@ pub fn pack<'a>(maker: &'a [u8], depot: &'a [u8], packed: &mut [u8; 4096]) -> us
     requires packed_len { length packed.old ≡ 4096 }
     ensures { Packed packed.new result (rules_in maker.now depot.now) }
 {
-    let all = count(maker, depot);
     let mut m = 0;
-    let mut i = 0;
-    while i < all {
+    for i in 0..count(maker, depot) {
         let q = record_at(maker, depot, i);
         if is_rule(q) {
             pack_rule(packed, m, q);
             m += 1;
         }
-        i += 1;
     }
     m
 }
@@ -101,9 +100,35 @@ pub fn link(packed: &[u8; 4096], m: usize, first: &mut [u16; 256], next: &mut [u
     requires linked { Linked packed.now 0 first.old next.old }
     ensures { Linked packed.now (4 * m) first.new next.new }
 {
-    let mut j = 0;
-    while j < m {
+    for j in 0..m {
         link_rule(packed, j, first, next);
-        j += 1;
+    }
+}
+
+// The packed rules and how many they are; each box's first entry, and each entry's next. That they are linked is a clause and no ghost
+// field: it says at which record and place an entry is, and a ghost field holds no such data.
+#[derive(Clone, Copy)]
+pub struct Index {
+    pub packed: [u8; 4096],
+    pub rules: usize,
+    pub first: [u16; 256],
+    pub next: [u16; 4096],
+}
+
+impl Index {
+    pub fn of(t: Tables) -> Index
+        ensures { Indexed result (rules_in t.entry.maker.now t.entry.depot.now) }
+    {
+        let mut packed = [0; 4096];
+        let mut first = [0; 256];
+        let mut next = [0; 4096];
+        let rules = pack(t.maker, t.depot, &mut packed);
+        link(&packed, rules, &mut first, &mut next);
+        Index {
+            packed,
+            rules,
+            first,
+            next,
+        }
     }
 }

@@ -1,9 +1,6 @@
-use Prim.Native.Nat.{◌*◌, ◌-◌, ◌≤◌}
+use Prim.Native.Nat.{◌*◌}
 use Rattle.index.specs.Index.{Linked}
 use Rattle.index.proofs.link.Given as goal
 
 abbrev pub invariant-loop-j : goal.invariant-loop-j
-invariant-loop-j l = (l.j ≤ l.m) × Linked l.packed (4 * l.j) l.first l.next
-
-abbrev pub decreases-loop-j : goal.decreases-loop-j
-decreases-loop-j l = l.m - l.j
+invariant-loop-j l = Linked l.packed (4 * l.j) l.first l.next

@@ -7,44 +7,41 @@ use Rattle.spec.specs.Records.{is_rule}
 use Rattle.index.specs.Index.{packed_rules}
 use Rattle.index.proofs.Packing.{rules_kept, rules_passed, packed_all}
 use Rattle.index.proofs.pack.Goals.{then-is_rule, else-is_rule}
-use Rattle.index.proofs.pack.Goals.{then-is_rule, else-is_rule}
-use Rattle.index.proofs.pack.Goals.{then-is_rule, else-is_rule}
 use Rattle.index.proofs.pack.Goals as goal
-
-pub count-all-requires : goal.count-all-requires
-count-all-requires c = tt
 
 pub loop-i-init : goal.loop-i-init
 unfolding packed_rules
-loop-i-init c = (search rules, search rules, c.requires.packed_len, refl)
+loop-i-init c = (search rules, c.requires.packed_len, refl)
 
 pub record_at-q-requires : goal.record_at-q-requires
-record_at-q-requires c =
-    record { whole_records = c.requires.accepted.whole; number_bound = omega (arith, c.count-all.ensures) }
-
-pub is_rule-requires : goal.is_rule-requires
-is_rule-requires c = tt
+record_at-q-requires c = record { whole_records = c.requires.accepted.whole; number_bound = omega arith }
 
 pub pack_rule-requires : goal.pack_rule-requires
 pack_rule-requires c =
-    let at_loop = c in
-    let accepted = at_loop.requires.accepted in record { m_bound = omega (arith, at_loop.count-all.ensures, accepted.count); packed_len = at_loop.loop-i.invariant.2; q_value = rw c.record_at-q.ensures (accepted.good at_loop.loop-i.i (omega (arith, at_loop.count-all.ensures))) }
+    let accepted = c.requires.accepted in
+    record {
+      m_bound = omega (arith, accepted.count);
+      packed_len = c.loop-i.invariant.1;
+      q_value = rw c.record_at-q.ensures (accepted.good c.loop-i.i (omega arith));
+    }
 
 pub loop-i-preserved : goal.loop-i-preserved
 loop-i-preserved c =
-    let at_loop = c in
-    let maker = at_loop.args.maker.now in
-    let depot = at_loop.args.depot.now in
+    let maker = c.args.maker.now in
+    let depot = c.args.depot.now in
     let read = c.record_at-q.ensures in
     let told = ap is_rule (sym read) ∙ sym c.is_rule.ensures in (
-      search rules,
       elim c.if-is_rule.branch [ then-is_rule w ↦ omega (arith, w.m-is) | else-is_rule w ↦ omega (arith, w.m-is) ],
-      elim c.if-is_rule.branch [ then-is_rule w ↦ rw w.packed-is w.pack_rule.ensures.packed_len_2 | else-is_rule w ↦ rw w.packed-is at_loop.loop-i.invariant.2 ],
-      elim c.if-is_rule.branch [ then-is_rule w ↦ cc (w.packed-is, w.m-is, w.pack_rule.ensures.m_after, at_loop.loop-i.invariant.3, read, rules_kept maker depot at_loop.loop-i.i (told ∙ w.if-is_rule.true)) | else-is_rule w ↦ cc (w.packed-is, w.m-is, at_loop.loop-i.invariant.3, rules_passed maker depot at_loop.loop-i.i (told ∙ w.if-is_rule.false)) ],
+      elim c.if-is_rule.branch [
+        | then-is_rule w ↦ rw w.packed-is w.pack_rule.ensures.packed_len_2
+        | else-is_rule w ↦ rw w.packed-is c.loop-i.invariant.1
+      ],
+      elim c.if-is_rule.branch [
+        | then-is_rule w ↦ cc (w.packed-is, w.m-is, w.pack_rule.ensures.m_after, c.loop-i.invariant.2, read, rules_kept maker depot c.loop-i.i (told ∙ w.if-is_rule.true))
+        | else-is_rule w ↦ cc (w.packed-is, w.m-is, c.loop-i.invariant.2, rules_passed maker depot c.loop-i.i (told ∙ w.if-is_rule.false))
+      ],
     )
 
 pub returns : goal.returns
 returns c =
-    let at_loop = c in
-    packed_all at_loop.requires.accepted at_loop.loop-i.invariant.2 at_loop.loop-i.invariant.1
-    (omega (arith, at_loop.count-all.ensures)) at_loop.loop-i.invariant.3
+    packed_all c.requires.accepted c.loop-i.invariant.1 c.loop-i.invariant.0 (omega arith) c.loop-i.invariant.2

@@ -1,5 +1,5 @@
 use mathlib.Core.Path.{◌≡◌}
-use Prim.Native.Nat.{◌-◌, ◌≤◌}
+use Prim.Native.Nat.{◌≤◌}
 use lib.ListN.{length}
 use Rattle.index.specs.Index.{packed_rules}
 use Rattle.index.proofs.Packing.{rules_below}
@@ -7,7 +7,4 @@ use Rattle.index.proofs.pack.Given as goal
 
 abbrev pub invariant-loop-i : goal.invariant-loop-i
 invariant-loop-i l =
-    (l.i ≤ l.all) × (l.m ≤ l.i) × (length l.packed ≡ 4096) × (packed_rules l.packed l.m ≡ rules_below l.maker l.depot l.i)
-
-abbrev pub decreases-loop-i : goal.decreases-loop-i
-decreases-loop-i l = l.all - l.i
+    (l.m ≤ l.i) × (length l.packed ≡ 4096) × (packed_rules l.packed l.m ≡ rules_below l.maker l.depot l.i)
