@@ -10,7 +10,7 @@ ghost use Rattle.spec.specs.Fits.{record_part};
 ghost use Rattle.spec.proofs.Accepted.{WholeRecords};
 ghost use Rattle.records.specs.Record.{as_rec, part_of};
 
-use kinds::{has_z, is_kind};
+use kinds::Kind;
 
 // The bytes of a record.
 const SIZE: usize = 8;
@@ -19,7 +19,7 @@ const SIZE: usize = 8;
 const NO_BOX: usize = 65535;
 
 // The eight bytes of a record: kind, byte 1, and the boxes x, y, z.
-#[derive(Clone, Copy)]
+#[derive(Clone, Copy, Debug, PartialEq, Eq)]
 pub struct Record {
     pub kind: u8,
     pub byte1: u8,
@@ -28,14 +28,15 @@ pub struct Record {
     pub z: usize,
 }
 
-// Where a record starts: in the maker's table or the depot's, and at which byte of it.
-#[derive(Clone, Copy)]
-pub struct Where {
-    pub depots: bool,
-    pub start: usize,
+// Where a record starts: at which byte of the maker's table, or of the depot's.
+#[derive(Clone, Copy, Debug, PartialEq, Eq)]
+pub enum Where {
+    Maker(usize),
+    Depot(usize),
 }
 
 // How many records both tables hold together.
+#[tactic(auto, unfolding(spec::specs::Records::record_count))]
 pub fn count<'a>(maker: &'a [u8], depot: &'a [u8]) -> usize
     ensures { result ≡ record_count maker.now depot.now }
 {
@@ -44,21 +45,16 @@ pub fn count<'a>(maker: &'a [u8], depot: &'a [u8]) -> usize
 
 // The tables act as one, so a number past the maker's records is one of the depot's. The number of the record's first byte is to
 // fit a usize, as it does for every record of two tables in memory.
+#[tactic(auto, unfolding(spec::specs::Fits::record_part))]
 pub fn place_of(maker: &[u8], number: usize) -> Where
     requires { 8 * number < 2 ^ 64 }
     ensures { part_of result ≡ record_part maker.now number }
 {
     let first = SIZE * number;
     if first < maker.len() {
-        return Where {
-            depots: false,
-            start: first,
-        };
-    }
-    let start = first - maker.len();
-    Where {
-        depots: true,
-        start,
+        Where::Maker(first)
+    } else {
+        Where::Depot(first - maker.len())
     }
 }
 
@@ -66,9 +62,10 @@ pub fn place_of(maker: &[u8], number: usize) -> Where
 pub fn word(low: u8, high: u8) -> usize
     ensures { result ≡ low + 256 * high }
 {
-    (low as usize) + 256 * (high as usize)
+    u16::from_le_bytes([low, high]) as usize
 }
 
+#[tactic(auto, unfolding(spec::specs::Records::rec_from))]
 fn record_from(t: &[u8], at: usize) -> Record
     requires { at + 8 ≤ length t.now }
     ensures { as_rec result ≡ rec_from t.now at }
@@ -87,16 +84,14 @@ pub fn record_at<'a>(maker: &'a [u8], depot: &'a [u8], number: usize) -> Record
     requires number_bound { number < record_count maker.now depot.now }
     ensures { as_rec result ≡ record_at maker.now depot.now number }
 {
-    let place = place_of(maker, number);
-    let start = place.start;
-    if place.depots {
-        record_from(depot, start)
-    } else {
-        record_from(maker, start)
+    match place_of(maker, number) {
+        Where::Maker(start) => record_from(maker, start),
+        Where::Depot(start) => record_from(depot, start),
     }
 }
 
 // Whether a record counts as a rule: every one does. Whoever goes through the rules asks here.
+#[tactic(auto, unfolding(spec::specs::Records::is_rule))]
 pub fn is_rule(q: Record) -> bool
     ensures { result ≡ is_rule (as_rec q) }
 {
@@ -104,32 +99,19 @@ pub fn is_rule(q: Record) -> bool
 }
 
 // First the reasons that a record of any kind may have, then those on its z.
+#[tactic(auto, using(crate::proofs::Reasons::why_bad, std::proofs::lemmas::Bool::Decides::nat_tests))]
 pub fn is_bad(n: usize, q: Record) -> bool
     ensures { result ≡ bad n (as_rec q) }
 {
-    if !is_kind(q.kind) {
+    let Ok(kind) = Kind::try_from(q.kind) else {
+        return true;
+    };
+    if q.byte1 != 0 || n <= q.x || n <= q.y || q.x == q.y {
         return true;
     }
-    if q.byte1 != 0 {
-        return true;
+    if kind.has_z() {
+        n <= q.z || q.x == q.z || q.y == q.z
+    } else {
+        q.z != NO_BOX
     }
-    if n <= q.x {
-        return true;
-    }
-    if n <= q.y {
-        return true;
-    }
-    if q.x == q.y {
-        return true;
-    }
-    if has_z(q.kind) {
-        if n <= q.z {
-            return true;
-        }
-        if q.x == q.z {
-            return true;
-        }
-        return q.y == q.z;
-    }
-    q.z != NO_BOX
 }
