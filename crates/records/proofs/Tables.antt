@@ -1,6 +1,6 @@
 -- A record of the two tables taken as one lies whole in one of them: `record_part` says in which, and where.
 -- Assumes nothing.
-use mathlib.Core.Path.{◌≡◌, refl, ap, ◌∙◌}
+use mathlib.Core.Path.{◌≡◌, refl, ap, ◌∙◌, subst⁻¹}
 use mathlib.Core.Bool.{Bool, true, false, cond}
 use mathlib.Core.List.{List, ◌++◌}
 use Prim.Native.Nat.{ℕ, ◌+◌, ◌*◌, ◌-◌, ◌≤◌, ◌<◌}
@@ -20,7 +20,8 @@ pub record LiesIn (maker depot : List ℕ) (number : ℕ) (p : Part) : Type 0 wh
   pub read : record_at maker depot number ≡ rec_from (cond p.depots depot maker) p.start
 
 -- a record is read from eight bytes alone
-rec_from_same : (t u : List ℕ) (at from : ℕ) → ((k : ℕ) → k < 8 → get_or t (at + k) 0 ≡ get_or u (from + k) 0) → rec_from t at ≡ rec_from u from
+rec_from_same : (t u : List ℕ) (at from : ℕ) → ((k : ℕ) → k < 8 → get_or t (at + k) 0 ≡ get_or u (from + k) 0) →
+    rec_from t at ≡ rec_from u from
 unfolding rec_from
 rec_from_same t u at from e i =
     record {
@@ -67,3 +68,8 @@ module _ (maker depot : List ℕ) where
         at false e =
             let starts : length maker ≤ 8 * number = ltb-false _ _ e in
             record { within = omega (arith, whole.makers, whole.depots); read = rec_from_depot (8 * number) starts }
+
+-- the record lies where a part that is `record_part`'s says
+pub lies : {maker depot : List ℕ} {number : ℕ} {p : Part} → WholeRecords maker depot → number < record_count maker depot →
+    p ≡ record_part maker number → LiesIn maker depot number p
+lies {maker} {depot} {number} whole below e = subst⁻¹ (LiesIn maker depot number) e (record_lies maker depot whole number below)
