@@ -1,19 +1,19 @@
 -- The trees give the closure: one computed test over the kinds and all states of a sheet.
 -- Assumes nothing.
-use mathlib.Core.Path.{◌≡◌, refl, subst⁻¹}
+use mathlib.Core.Path.{◌≡◌, refl, subst⁻¹, sym, ap, ◌∙◌}
 use mathlib.Core.List.{List, map}
 use Prim.Native.Nat.{ℕ, suc, ◌-◌, ◌<◌}
 use native.Mathlib.Decide.{dec_lt}
 use native.Mathlib.Omega.{arith}
 use Rattle.lemmas.specs.Lists.{upto}
 use Rattle.lemmas.proofs.Table.{table_agree}
-use Rattle.spec.specs.Kinds.{kind_of}
+use Rattle.spec.specs.Kinds.{Kind, kind_of}
 use Rattle.spec.specs.Rules.{rules_of}
 use Rattle.spec.specs.Records.{box_at}
 use Rattle.spec.specs.Facts.{holds}
 use Rattle.spec.specs.Rounds.{has, names, gives, follows, code, round, closed}
-use Rattle.fire.specs.States.{OnSheet, closed_alone}
-use Rattle.fire.proofs.Tree.{tree}
+use Rattle.fire.specs.States.{three, OnSheet, closed_alone}
+use Rattle.fire.proofs.Tree.{tree, tree_of, equ_tree, not_tree, and_tree, or_tree}
 
 -- what a function gives at each state of a sheet: out, in, open
 abbrev at_states : {A : Type 0} → (ℕ → A) → List A
@@ -64,3 +64,29 @@ above_agree k = refl
 
 pub tree_closed : (kind : ℕ) {x y z : ℕ} → OnSheet x y z → tree kind x y z ≡ closed_alone kind x y z
 tree_closed = kinds_same tree closed_alone kinds_agree above_agree
+
+-- numbers of one kind have one closure
+pub same_kind : (kind alike : ℕ) {x y z : ℕ} → OnSheet x y z → kind_of kind ≡ kind_of alike →
+    closed_alone alike x y z ≡ closed_alone kind x y z
+same_kind kind alike {x} {y} {z} s e =
+    sym (tree_closed alike s) ∙ ap (λ (k : Kind). tree_of k x y z) (sym e) ∙ tree_closed kind s
+
+pub none_closed : {x y z : ℕ} → OnSheet x y z → closed_alone 0 x y z ≡ three x y z
+unfolding kind_of
+none_closed s = sym (tree_closed 0 s)
+
+pub equ_closed : {x y z : ℕ} → OnSheet x y z → closed_alone 1 x y z ≡ equ_tree x y z
+unfolding kind_of
+equ_closed s = sym (tree_closed 1 s)
+
+pub not_closed : {x y z : ℕ} → OnSheet x y z → closed_alone 2 x y z ≡ not_tree x y z
+unfolding kind_of
+not_closed s = sym (tree_closed 2 s)
+
+pub and_closed : {x y z : ℕ} → OnSheet x y z → closed_alone 3 x y z ≡ and_tree x y z
+unfolding kind_of
+and_closed s = sym (tree_closed 3 s)
+
+pub or_closed : {x y z : ℕ} → OnSheet x y z → closed_alone 4 x y z ≡ or_tree x y z
+unfolding kind_of
+or_closed s = sym (tree_closed 4 s)

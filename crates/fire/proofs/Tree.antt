@@ -8,7 +8,7 @@ use native.Mathlib.Decide.{dec_lt}
 use native.Mathlib.Omega.{arith}
 use lib.Dec.{eqb}
 use lib.ListN.{get_or, get_or-eq_default}
-use borrow.Author.Tests.{ne_eqb}
+use Rattle.spec.specs.Kinds.{Kind, EQU, NOT, AND, OR, other, kind_of}
 use Rattle.fire.specs.States.{three}
 
 abbrev out : ℕ → Bool
@@ -17,27 +17,23 @@ out state = eqb state 0
 abbrev in' : ℕ → Bool
 in' state = eqb state 1
 
--- neither out nor in, as the code's third arm has it
-pub at_open : {s : ℕ} → (Unit {0} × (s ≡ 0 → ⊥)) × (s ≡ 1 → ⊥) → {A : Type 0} (a b c : A) → cond (out s) a (cond (in' s) b c) ≡ c
-at_open n a b c = rw (ne_eqb _ _ n.0.1, ne_eqb _ _ n.1)
-
 -- from three states to three
 abbrev pub Step : Type 0
 Step = (x y z : ℕ) → List ℕ
 
-abbrev equ_tree : Step
+abbrev pub equ_tree : Step
 equ_tree x y z =
     cond (out x) (cond (in' y) (three 3 3 z) (three x 0 z))
     (cond (in' x) (cond (out y) (three 3 3 z) (three x 1 z))
     (cond (out y) (three 0 y z) (cond (in' y) (three 1 y z) (three x y z))))
 
-abbrev not_tree : Step
+abbrev pub not_tree : Step
 not_tree x y z =
     cond (out x) (cond (out y) (three 3 3 z) (three x 1 z))
     (cond (in' x) (cond (in' y) (three 3 3 z) (three x 0 z))
     (cond (out y) (three 1 y z) (cond (in' y) (three 0 y z) (three x y z))))
 
-abbrev and_tree : Step
+abbrev pub and_tree : Step
 and_tree x y z =
     cond (out z)
     (cond (in' x) (cond (in' y) (three 3 3 3) (three x 0 z)) (cond (in' y) (three 0 y z) (three x y z)))
@@ -46,7 +42,7 @@ and_tree x y z =
     (cond (in' x) (cond (out y) (three x y 0) (cond (in' y) (three x y 1) (three x y z)))
     (cond (out y) (three x y 0) (three x y z)))))
 
-abbrev or_tree : Step
+abbrev pub or_tree : Step
 or_tree x y z =
     cond (out z) (cond (in' x) (three 3 3 3) (cond (in' y) (three 3 3 3) (three 0 0 z)))
     (cond (in' z)
@@ -55,12 +51,15 @@ or_tree x y z =
     (cond (in' x) (three x y 1)
     (cond (in' y) (three x y 1) (three x y z)))))
 
--- by the kind's number: 1 EQU, 2 NOT, 3 AND, 4 OR
-abbrev trees : List Step
-trees = three ∷ equ_tree ∷ not_tree ∷ and_tree ∷ or_tree ∷ []
+abbrev pub tree_of : Kind → Step
+tree_of EQU = equ_tree
+tree_of NOT = not_tree
+tree_of AND = and_tree
+tree_of OR = or_tree
+tree_of other = three
 
 abbrev pub tree : ℕ → Step
-tree kind = get_or trees kind three
+tree kind = tree_of (kind_of kind)
 
 -- the number is no kind, as the code's last arm has it
 abbrev pub NoKind : ℕ → Type 0
@@ -74,7 +73,3 @@ number_none none equ not and or kind differs = at (dec_lt kind 5)
     at : Dec (kind < 5) → get_or (none ∷ equ ∷ not ∷ and ∷ or ∷ []) kind none ≡ none
     at (yes l) = let e : kind ≡ 0 = omega arith in rw e
     at (no l) = get_or-eq_default (none ∷ equ ∷ not ∷ and ∷ or ∷ []) none {n = kind} (omega arith)
-
--- the states stay as they are
-pub tree_none : (kind : ℕ) → NoKind kind → tree kind ≡ three
-tree_none = number_none three equ_tree not_tree and_tree or_tree

@@ -1,8 +1,8 @@
 -- Three states as the code holds them, and what it is to have fired every rule of one record on them.
 -- Assumes nothing.
-use Rattle.std.specs.Prelude.{◌≡◌, cond, List, [], ◌∷◌, ℕ, ◌≤◌, get_or}
+use Rattle.std.specs.Prelude.{◌≡◌, cond, List, [], ◌∷◌, ℕ, ◌≤◌}
 use Rattle.spec.specs.Rounds.{closed}
-use Rattle.spec.specs.Kinds.{kind_of}
+use Rattle.spec.specs.Kinds.{Kind, EQU, NOT, AND, OR, other, kind_of}
 use Rattle.spec.specs.Records.{lacks_z}
 use Rattle.spec.specs.OneRule.{alone}
 use Rattle.fire.specs.declared.States.{States}
@@ -38,6 +38,13 @@ counted kind z = cond (lacks_z (kind_of kind)) 2 z
 abbrev pub Rests : (kind x y z : ℕ) → Type 0
 Rests kind x y z = closed_alone kind x y (counted kind z) ≡ three x y (counted kind z)
 
--- by the kind's number: bit 16x + 4y + z is 1 where something follows
+-- by the kind: bit 16x + 4y + z is 1 where something follows
+abbrev pub stirs_of : Kind → ℕ
+stirs_of EQU = 511219009392
+stirs_of NOT = 511225890567
+stirs_of AND = 2431007458918
+stirs_of OR = 1456083370838
+stirs_of other = 0
+
 abbrev pub stirs_at : ℕ → ℕ
-stirs_at kind = get_or (0 ∷ 511219009392 ∷ 511225890567 ∷ 2431007458918 ∷ 1456083370838 ∷ []) kind 0
+stirs_at kind = stirs_of (kind_of kind)

@@ -6,10 +6,10 @@
 ghost use Rattle.std.specs.Prelude.{◌≡◌, true};
 ghost use Rattle.fire.specs.States.{three, list_of, OnSheet, closed_alone, Fired, Rests, stirs_at};
 
-use records::kinds::{AND, EQU, NOT, OR};
+use records::kinds::Kind;
 use records::states::{BOTH, IN, OUT};
 
-#[derive(Clone, Copy)]
+#[derive(Clone, Copy, Debug, PartialEq, Eq)]
 pub struct States {
     pub x: u8,
     pub y: u8,
@@ -29,6 +29,7 @@ fn both(z: u8) -> States
 }
 
 // The rules of EQU: x = y.
+#[tactic(auto, using(crate::proofs::Agree::equ_closed, std::proofs::lemmas::Bool::Decides::nat_tests))]
 fn fire_equ(x: u8, y: u8, z: u8) -> States
     requires { OnSheet x y z }
     ensures { list_of result ≡ closed_alone 1 x y z }
@@ -51,6 +52,7 @@ fn fire_equ(x: u8, y: u8, z: u8) -> States
 }
 
 // The rules of NOT: not x = y.
+#[tactic(auto, using(crate::proofs::Agree::not_closed, std::proofs::lemmas::Bool::Decides::nat_tests))]
 fn fire_not(x: u8, y: u8, z: u8) -> States
     requires { OnSheet x y z }
     ensures { list_of result ≡ closed_alone 2 x y z }
@@ -73,6 +75,7 @@ fn fire_not(x: u8, y: u8, z: u8) -> States
 }
 
 // The rules of AND: x and y = z.
+#[tactic(auto, using(crate::proofs::Agree::and_closed, std::proofs::lemmas::Bool::Decides::nat_tests))]
 fn fire_and(x: u8, y: u8, z: u8) -> States
     requires { OnSheet x y z }
     ensures { list_of result ≡ closed_alone 3 x y z }
@@ -111,6 +114,7 @@ fn fire_and(x: u8, y: u8, z: u8) -> States
 }
 
 // The rules of OR: x or y = z.
+#[tactic(auto, using(crate::proofs::Agree::or_closed, std::proofs::lemmas::Bool::Decides::nat_tests))]
 fn fire_or(x: u8, y: u8, z: u8) -> States
     requires { OnSheet x y z }
     ensures { list_of result ≡ closed_alone 4 x y z }
@@ -154,12 +158,12 @@ pub fn fire(kind: u8, x: u8, y: u8, z: u8) -> States
     requires { OnSheet x y z }
     ensures { Fired kind x y z result }
 {
-    match kind {
-        EQU => fire_equ(x, y, z),
-        NOT => fire_not(x, y, z),
-        AND => fire_and(x, y, z),
-        OR => fire_or(x, y, z),
-        _ => States { x, y, z },
+    match Kind::try_from(kind) {
+        Ok(Kind::Equ) => fire_equ(x, y, z),
+        Ok(Kind::Not) => fire_not(x, y, z),
+        Ok(Kind::And) => fire_and(x, y, z),
+        Ok(Kind::Or) => fire_or(x, y, z),
+        Err(_) => States { x, y, z },
     }
 }
 
@@ -168,16 +172,17 @@ pub fn fire(kind: u8, x: u8, y: u8, z: u8) -> States
 fn stirs(kind: u8) -> u64
     ensures { result ≡ stirs_at kind }
 {
-    match kind {
-        EQU => 0x7707070770,
-        NOT => 0x7707700707,
-        AND => 0x23603560666,
-        OR => 0x15305550356,
-        _ => 0,
+    match Kind::try_from(kind) {
+        Ok(Kind::Equ) => 0x7707070770,
+        Ok(Kind::Not) => 0x7707700707,
+        Ok(Kind::And) => 0x23603560666,
+        Ok(Kind::Or) => 0x15305550356,
+        Err(_) => 0,
     }
 }
 
 // Whether no rule of this kind gives anything new: so it is with most records, most of the time, and this look has no jumps.
+#[tactic(auto, using(crate::proofs::AtRest::bit_rests))]
 pub fn at_rest(kind: u8, x: u8, y: u8, z: u8) -> bool
     requires { OnSheet x y z }
     ensures { result ≡ true → Rests kind x y z }
