@@ -30,8 +30,7 @@ fn entry(k: usize) -> u8
     requires { k < 256 }
     ensures { result ≡ outcome k }
 {
-    let t = table();
-    t[k]
+    table()[k]
 }
 
 // The entry for a kind and three states: the table is read by these alone.

@@ -6,4 +6,4 @@ use Rattle.spec.specs.OneRule.{outcome}
 use Rattle.onerule.proofs.entry.Goals as goal
 
 pub returns : goal.returns
-returns c = rw c.table-t.ensures (get_or_upto outcome 256 c.args.k 0 (omega arith))
+returns c = rw c.table.ensures (get_or_upto outcome 256 c.args.k 0 (omega arith))
