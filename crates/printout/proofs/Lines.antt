@@ -19,25 +19,23 @@ unfolding line_of
 line_length n = length-append (decimal n) (10 ∷ [])
 
 -- an entry is below 100
-pub line_short : (n : ℕ) → n < 100 → length (line_of n) ≤ 3
-line_short n h = omega (arith, line_length n, decimal_length 1 n h)
+pub entry_short : {n k : ℕ} → n ≡ outcome k → k < 256 → length (line_of n) ≤ 3
+entry_short {n} {k} e h = omega (arith, line_length n, decimal_length 1 n (omega (arith, entry_below k h)))
 
--- the lines of the entries below k stand at the front of the bytes, which are `size` many and have room for all lines
-pub record Front (size : ℕ) (bytes : List ℕ) (at k : ℕ) : Type 0 where
-  pub kept : length bytes ≡ size
+-- the lines of the entries below k stand at the front of the bytes, which have room for all lines
+pub record Front (bytes : List ℕ) (at k : ℕ) : Type 0 where
   pub room : 768 ≤ length bytes
   pub below : at ≤ 3 * k
   pub lines : take at bytes ≡ printed k
 
 -- the line of entry k is put just after the lines of the entries below k
-pub line_added : {size : ℕ} {old new : List ℕ} {at next n k : ℕ} →
-    k < 256 → Front size old at k → Put old at (line_of n) new next → n ≡ outcome k → Front size new next (k + 1)
+pub line_added : {old new : List ℕ} {at next n k : ℕ} →
+    k < 256 → Front old at k → Put old at (line_of n) new next → n ≡ outcome k → Front new next (k + 1)
 unfolding printed
 line_added {n} {k} h front put e =
-    let short : length (line_of n) ≤ 3 = line_short n (omega (arith, entry_below k h)) in
+    let short : length (line_of n) ≤ 3 = entry_short e h in
     let same = put_length put in
     record {
-      kept = same ∙ front.kept;
       room = omega arith;
       below = omega (arith, put.after);
       lines = rw add-one (put_front (omega arith) put ∙ rw (front.lines, e));

@@ -36,12 +36,9 @@ fn put_table(out: &mut [u8]) -> usize
     ensures prefix_len { IsPrefixLen result out.new }
     ensures out_after { take result out.new ≡ printed 256 }
 {
-    let mut at: usize = 0;
-    let mut k: usize = 0;
-    while k < 256 {
-        let n = kth(k);
-        at = put_line(out, at, n);
-        k += 1;
+    let mut at = 0;
+    for k in 0..256 {
+        at = put_line(out, at, kth(k));
     }
     at
 }
