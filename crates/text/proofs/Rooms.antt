@@ -4,6 +4,7 @@ use mathlib.Core.Path.{◌≡◌, refl, sym}
 use mathlib.Core.List.{List, [], ◌∷◌, ◌++◌}
 use Prim.Native.Nat.{ℕ, ◌+◌, ◌*◌, ◌^◌, ◌≤◌, ◌<◌}
 use native.Mathlib.Omega.{arith}
+use borrow.Author.Tests.{ne_eqb}
 use lib.ListN.{length, take}
 use lib.Seq.{length-take-le}
 use Rattle.text.specs.Spelling.{decimal, hex_pair, hex_of}
@@ -18,7 +19,7 @@ usize_digits n h = decimal_length 19 n (omega arith)
 
 pub hex_length : (l : List ℕ) → length (hex_of l) ≤ 2 * length l + 1
 hex_length [] = rw (hex_none [] refl) (omega arith)
-hex_length (b ∷ l) = rw (hex_some (b ∷ l) (omega arith)) (omega (arith, spelt_length hex_pair 2 (λ b. refl) (b ∷ l)))
+hex_length (b ∷ l) = rw (hex_some (b ∷ l) (sym (ne_eqb _ _ (λ e. omega arith)))) (omega (arith, spelt_length hex_pair 2 (λ b. refl) (b ∷ l)))
 
 pub room_of : {old bytes new : List ℕ} {at next : ℕ} (most : ℕ) → Put old at bytes new next → length bytes ≤ most →
     PutWithin most old at bytes new next

@@ -1,11 +1,14 @@
 -- A loop that puts the elements of a list one by one, each spelt by itself.
 -- Assumes nothing.
 use mathlib.Core.Path.{◌≡◌, refl, sym, ap, ◌∙◌}
+use mathlib.Core.Bool.{true, false}
 use mathlib.Core.List.{List, [], ◌∷◌, ◌++◌, append_assoc, append-nil}
 use Prim.Native.Nat.{ℕ, ◌+◌, ◌*◌, ◌≤◌, ◌<◌}
 use native.Mathlib.Omega.{arith}
 use native.Mathlib.Nat.{mul-suc, mul-zero}
 use native.Mathlib.Numerals.{add-one}
+use lib.Dec.{eqb}
+use borrow.Author.Tests.{eqb-true}
 use lib.ListN.{length, take, get_or, length-append}
 use lib.Seq.{take-suc, take_all, length-take-le}
 use Rattle.text.specs.Spelling.{spelt, hex_pair, hex_of}
@@ -60,12 +63,12 @@ module _ {A : Type 0} {spell : A → List ℕ} {src : List A} {old : List ℕ} {
   spelling_place width e {i} s = s.puts.after ∙ rw (spelt_length spell width e, length-take-le i src s.within)
 
 -- some bytes, in hexadecimal
-pub hex_some : (l : List ℕ) → 0 < length l → hex_of l ≡ spelt hex_pair l
+pub hex_some : (l : List ℕ) → false ≡ eqb (length l) 0 → hex_of l ≡ spelt hex_pair l
 unfolding hex_of
-hex_some [] h = absurd (omega arith)
-hex_some (b ∷ l) h = refl
+hex_some [] e = cc
+hex_some (b ∷ l) e = refl
 
-pub hex_none : (l : List ℕ) → length l ≡ 0 → hex_of l ≡ 46 ∷ []
+pub hex_none : (l : List ℕ) → true ≡ eqb (length l) 0 → hex_of l ≡ 46 ∷ []
 unfolding hex_of
 hex_none [] e = refl
-hex_none (b ∷ l) e = absurd (omega arith)
+hex_none (b ∷ l) e = absurd (omega (arith, eqb-true _ _ (sym e)))

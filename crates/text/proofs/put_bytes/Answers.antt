@@ -1,4 +1,4 @@
--- `text::put_bytes` meets its contract. The loop's invariant: the first i bytes are put. The measure is what is left of them.
+-- `text::put_bytes` meets its contract. The loop's invariant: the bytes passed are put.
 -- Assumes nothing.
 use mathlib.Core.Path.{refl}
 use native.Mathlib.Omega.{arith}
@@ -6,20 +6,17 @@ use Rattle.text.proofs.Puts.{put_length}
 use Rattle.text.proofs.Spells.{spelt_bytes, spelling_start, spelling_next, spelling_all, spelling_place}
 use Rattle.text.proofs.put_bytes.Goals as goal
 
-pub loop-i-init : goal.loop-i-init
-loop-i-init c = spelling_start
+pub loop-b-init : goal.loop-b-init
+loop-b-init c = spelling_start
 
 pub put_byte-next-requires : goal.put_byte-next-requires
 put_byte-next-requires c =
-    let so = c.loop-i.invariant in
+    let so = c.loop-b.invariant in
     omega (arith, spelling_place 1 (λ b. refl) so, put_length so.puts)
 
-pub loop-i-preserved : goal.loop-i-preserved
-loop-i-preserved c =
-    spelling_next 0 c.loop-i.invariant (omega arith) c.put_byte-next.ensures
-
-pub shape_of-out : goal.shape_of-out
-shape_of-out c = put_length c.loop-i.invariant.puts
+pub loop-b-preserved : goal.loop-b-preserved
+loop-b-preserved c =
+    spelling_next 0 c.loop-b.invariant (omega arith) c.put_byte-next.ensures
 
 pub returns : goal.returns
-returns c = rw spelt_bytes at (spelling_all c.loop-i.invariant (omega arith))
+returns c = rw spelt_bytes at (spelling_all c.loop-b.invariant (omega arith))
