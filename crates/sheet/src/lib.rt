@@ -7,7 +7,7 @@ ghost use Rattle.theory.specs.Steps.{Loaded};
 
 use records::states::OPEN;
 
-#[derive(Clone, Copy)]
+#[derive(Clone, Copy, Debug, PartialEq, Eq)]
 pub struct Sheet {
     pub states: [u8; 256],
 }
@@ -29,22 +29,14 @@ pub fn load(sheet: &[u8], states: &mut [u8; 256])
     requires states_value { states.old ≡ replicate 256 2 }
     ensures { Loaded sheet.now states.new }
 {
-    let mut b = 0;
-    while b < sheet.len() {
-        states[b] = sheet[b];
-        b += 1;
-    }
+    states[..sheet.len()].copy_from_slice(sheet);
 }
 
 pub fn store(filled: &[u8], out: &mut [u8])
     requires { length out.old ≡ length filled.now }
     ensures { out.new ≡ filled.now }
 {
-    let mut b = 0;
-    while b < out.len() {
-        out[b] = filled[b];
-        b += 1;
-    }
+    out.copy_from_slice(filled);
 }
 
 // The boxes that were open on the one sheet and are not on the other. Counted in sixteen bits, and without a test in the loop, so that
@@ -55,27 +47,15 @@ pub fn count_filled(sheet: &[u8], filled: &[u8]) -> usize
     ensures { result ≡ boxes_filled sheet.now filled.now }
 {
     let mut n: u16 = 0;
-    let mut b = 0;
-    while b < sheet.len() {
-        let was_open = if sheet[b] == OPEN { 1 } else { 0 };
-        let is_settled = if filled[b] == OPEN { 0 } else { 1 };
-        n += was_open * is_settled;
-        b += 1;
+    for (old, new) in sheet.iter().zip(filled) {
+        n += u16::from((*old == OPEN) & (*new != OPEN));
     }
-    n as usize
+    usize::from(n)
 }
 
 pub fn count_open(sheet: &[u8]) -> usize
     requires { length sheet.now ≤ 256 }
     ensures { result ≡ open_count sheet.now }
 {
-    let mut n: u16 = 0;
-    let mut b = 0;
-    while b < sheet.len() {
-        if sheet[b] == OPEN {
-            n += 1;
-        }
-        b += 1;
-    }
-    n as usize
+    sheet.iter().filter(|s| **s == OPEN).count()
 }

@@ -1,7 +1,7 @@
 use mathlib.Core.Path.{◌≡◌}
 use mathlib.Core.Bool.{Bool, not, ◌&&◌}
 use mathlib.Core.List.{List}
-use Prim.Native.Nat.{ℕ, ◌-◌, ◌≤◌}
+use Prim.Native.Nat.{ℕ}
 use lib.Dec.{eqb}
 use lib.ListN.{length, get_or}
 use Rattle.lemmas.specs.Lists.{count, upto}
@@ -11,8 +11,5 @@ use Rattle.sheet.proofs.count_filled.Given as goal
 abbrev pub is_filled : List ℕ → List ℕ → ℕ → Bool
 is_filled sheet filled b = eqb (get_or sheet b 0) 2 && not (eqb (get_or filled b 0) 2)
 
-abbrev pub invariant-loop-b : goal.invariant-loop-b
-invariant-loop-b l = (l.b ≤ length l.sheet) × (l.n ≡ count (is_filled l.sheet l.filled) (upto l.b))
-
-abbrev pub decreases-loop-b : goal.decreases-loop-b
-decreases-loop-b l = length l.sheet - l.b
+abbrev pub invariant-loop-old : goal.invariant-loop-old
+invariant-loop-old l = l.n ≡ count (is_filled l.sheet l.filled) (upto (length l.yielded))
