@@ -3,22 +3,23 @@
 use mathlib.Core.Path.{◌≡◌, refl, sym, subst, subst⁻¹}
 use mathlib.Core.Bool.{Bool, true, false, true≢false}
 use mathlib.Core.List.{List, Memᴰ}
-use Prim.Native.Nat.{ℕ, ◌+◌, ◌-◌, ◌≤◌, ◌<◌}
+use Prim.Native.Nat.{ℕ, ◌+◌, ◌≤◌, ◌<◌}
 use native.Mathlib.Omega.{arith}
 use native.Mathlib.Decide.{ℕ_discrete}
+use Rattle.std.specs.Prelude.{Ok, Err}
 use Rattle.spec.specs.Records.{Rec, record_at, record_count, is_rule, rules_in}
 use Rattle.theory.specs.Steps.{IsSheet, Stable}
 use Rattle.theory.proofs.Numbered.{number_rule, every_rule}
 use Rattle.engine.specs.Moves.{SomeClash}
-use Rattle.engine.specs.Queue.{RecordStepped, Waits, rests, Ran, SweptTo}
-use Rattle.engine.specs.declared.step.Move.TheVariants.{Noted, Clash}
+use Rattle.engine.specs.Queue.{RecordStepped, Seen, IsNext, Waits, rests, Ran, SweptTo}
+use Rattle.engine.specs.declared.step.Clash.{Clash}
 use Rattle.engine.proofs.Waiting.{waits_queued}
 use Rattle.engine.proofs.Running.{ran_refl, ran_trans, ran_clash, fired_ran, fired_clash}
 
 -- a record's step, whether or not it counts as a rule
 module _ (q : Rec) (t u queue queue' : List ℕ) (tail : ℕ) where
   stepped_ran : (qs : List Rec) (tail' : ℕ) (counts : Bool) → (counts ≡ true → Memᴰ q qs) → IsSheet t →
-      RecordStepped counts q t u queue queue' tail (Noted tail') → Ran qs t u queue queue' tail tail'
+      RecordStepped counts q t u queue queue' tail (Ok tail') → Ran qs t u queue queue' tail tail'
   stepped_ran qs tail' true member sheet fired = fired_ran (member refl) fired
   stepped_ran qs tail' false member sheet (e, e', e'') =
       let at : tail ≡ tail' = cc in
@@ -26,32 +27,15 @@ module _ (q : Rec) (t u queue queue' : List ℕ) (tail : ℕ) where
       (subst⁻¹ (λ (v : List ℕ). Ran qs t v queue queue' tail tail) e
       (subst⁻¹ (λ (k : List ℕ). Ran qs t t queue k tail tail) e' (ran_refl qs sheet)))
 
-  stepped_rests : (tail' : ℕ) (counts : Bool) → counts ≡ true → RecordStepped counts q t u queue queue' tail (Noted tail') → Stable q u
+  stepped_rests : (tail' : ℕ) (counts : Bool) → counts ≡ true → RecordStepped counts q t u queue queue' tail (Ok tail') →
+      Stable q u
   stepped_rests tail' true is fired = fired.stable
   stepped_rests tail' false is fired = absurd (true≢false (sym is))
 
-  stepped_clash : (qs : List Rec) (counts : Bool) → (counts ≡ true → Memᴰ q qs) → RecordStepped counts q t u queue queue' tail Clash → SomeClash qs t
-  stepped_clash qs true member clashed = fired_clash (member refl) t clashed.clash
-  stepped_clash qs false member (e, e', e'') = let z : ◌≡◌ {A = ℕ} 0 1 = cc in absurd (omega arith)
-
--- the records that have had their step before the i-th of a sweep, forward or back
-abbrev pub Seen : (back : Bool) (all i j : ℕ) → Type 0
-Seen false all i j = j < i
-Seen true all i j = all ≤ j + i
-
--- record r is the i-th of a sweep: with it, one more is seen
-abbrev pub IsNext : (back : Bool) (all i r : ℕ) → Type 0
-IsNext back all i r = (j : ℕ) → Seen back all (i + 1) j → (j ≡ r → ⊥) → Seen back all i j
-
--- as the code counts: `count` records, of which r is the i-th
-module _ {all count i r : ℕ} (is : count ≡ all) (below : i < count) where
-  pub next_back : (back : Bool) → back ≡ true → r ≡ count - 1 - i → (r < all) × IsNext back all i r
-  next_back true e e' = (omega arith, λ j seen other. omega arith)
-  next_back false e e' = absurd (true≢false (sym e))
-
-  pub next_forth : (back : Bool) → back ≡ false → r ≡ i → (r < all) × IsNext back all i r
-  next_forth true e e' = absurd (true≢false e)
-  next_forth false e e' = (omega arith, λ j seen other. omega arith)
+  stepped_clash : (qs : List Rec) (counts : Bool) → (counts ≡ true → Memᴰ q qs) → (lost : Clash) →
+      RecordStepped counts q t u queue queue' tail (Err lost) → SomeClash qs t
+  stepped_clash qs true member lost clashed = fired_clash (member refl) t clashed.clash
+  stepped_clash qs false member lost (e, e', e'') = absurd cc
 
 pub seen_all : (back : Bool) {all i j : ℕ} → all ≤ i → j < all → Seen back all i j
 seen_all false up below = omega arith
@@ -68,8 +52,8 @@ module _ (maker depot : List ℕ) where
   -- before the i-th record: the rules that have had their step are at rest but for what was settled since
   pub record SoFar (back : Bool) (s t queue queue' : List ℕ) (tail tail' i : ℕ) : Type 0 where
     pub ran : Ran rules s t queue queue' tail tail'
-    pub waits : (j : ℕ) → j < record_count maker depot → Seen back (record_count maker depot) i j → is_rule (record_at maker depot j) ≡ true →
-        Waits (record_at maker depot j) t queue' tail tail'
+    pub waits : (j : ℕ) → j < record_count maker depot → Seen back (record_count maker depot) i j →
+        is_rule (record_at maker depot j) ≡ true → Waits (record_at maker depot j) t queue' tail tail'
 
   pub sweep_start : (back : Bool) {s queue : List ℕ} {tail : ℕ} → IsSheet s → SoFar back s s queue queue tail tail 0
   sweep_start back sheet = record { ran = ran_refl rules sheet; waits = λ j below seen counts. absurd (seen_none back below seen) }
@@ -83,30 +67,31 @@ module _ (maker depot : List ℕ) where
         }
 
     module _ (r : ℕ) (below : r < record_count maker depot) where
-      member : is_rule (record_at maker depot r) ≡ true → Memᴰ (record_at maker depot r) rules
+      abbrev its : Rec
+      its = record_at maker depot r
+
+      member : is_rule its ≡ true → Memᴰ its rules
       member counts = number_rule maker depot below counts
 
-      pub sweep_clash : (u queue'' : List ℕ) →
-          RecordStepped (is_rule (record_at maker depot r)) (record_at maker depot r) t u queue' queue'' tail' Clash → SomeClash rules s
-      sweep_clash u queue'' step =
-          let q = record_at maker depot r in
-          ran_clash so.ran (stepped_clash q t u queue' queue'' tail' rules (is_rule q) member step)
+      pub sweep_clash : (u queue'' : List ℕ) (lost : Clash) → RecordStepped (is_rule its) its t u queue' queue'' tail' (Err lost) →
+          SomeClash rules s
+      sweep_clash u queue'' lost step =
+          ran_clash so.ran (stepped_clash its t u queue' queue'' tail' rules (is_rule its) member lost step)
 
       pub sweep_step : IsNext back (record_count maker depot) i r → (u queue'' : List ℕ) (tail'' : ℕ) →
-          RecordStepped (is_rule (record_at maker depot r)) (record_at maker depot r) t u queue' queue'' tail' (Noted tail'') →
-          SoFar back s u queue queue'' tail tail'' (i + 1)
+          RecordStepped (is_rule its) its t u queue' queue'' tail' (Ok tail'') → SoFar back s u queue queue'' tail tail'' (i + 1)
       sweep_step is-next u queue'' tail'' step =
           record { ran = ran_trans so.ran moved; waits = λ j l seen counts. at j l seen counts (ℕ_discrete j r) }
         where
           moved : Ran rules t u queue' queue'' tail' tail''
-          moved = stepped_ran (record_at maker depot r) t u queue' queue'' tail' rules tail'' (is_rule (record_at maker depot r)) member so.ran.grown.sheet step
+          moved = stepped_ran its t u queue' queue'' tail' rules tail'' (is_rule its) member so.ran.grown.sheet step
 
-          at : (j : ℕ) → j < record_count maker depot → Seen back (record_count maker depot) (i + 1) j → is_rule (record_at maker depot j) ≡ true →
-              Dec (j ≡ r) → Waits (record_at maker depot j) u queue'' tail tail''
+          at : (j : ℕ) → j < record_count maker depot → Seen back (record_count maker depot) (i + 1) j →
+              is_rule (record_at maker depot j) ≡ true → Dec (j ≡ r) → Waits (record_at maker depot j) u queue'' tail tail''
           at j l seen counts (yes e) =
               subst⁻¹ (λ (k : ℕ). Waits (record_at maker depot k) u queue'' tail tail'') e
               (rests
-              (stepped_rests (record_at maker depot r) t u queue' queue'' tail' tail'' (is_rule (record_at maker depot r))
+              (stepped_rests its t u queue' queue'' tail' tail'' (is_rule its)
               (subst (λ (k : ℕ). is_rule (record_at maker depot k) ≡ true) e counts) step))
           at j l seen counts (no ¬e) =
               waits_queued moved.queued (record_at maker depot j) so.ran.queued.later (so.waits j l (is-next j seen ¬e) counts)

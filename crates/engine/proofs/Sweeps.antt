@@ -1,18 +1,17 @@
 -- Sweeps one after the other, until one settles nothing, or the queue takes over.
 -- Assumes nothing.
-use mathlib.Core.Bool.{Bool, true, false}
 use mathlib.Core.List.{List}
 use Prim.Native.Nat.{ℕ, ◌≤◌}
 use native.Mathlib.Omega.{arith}
 use Rattle.spec.specs.Records.{Rec}
 use Rattle.theory.specs.Steps.{Grown}
-use Rattle.theory.proofs.Growth.{grown_refl, grown_trans, grown_clash}
-use Rattle.engine.specs.Moves.{Rested}
+use Rattle.theory.proofs.Growth.{grown_trans}
+use Rattle.engine.specs.Moves.{AllStable}
 use Rattle.engine.specs.Queue.{Lent, AllWait, SweptTo}
 use Rattle.engine.proofs.Running.{lent_ran}
 use Rattle.engine.proofs.Draining.{drain_end}
 
--- since the first: the boxes that the last one settled are in the queue from `start` on
+-- the boxes that the last one settled are in the queue from `start` on
 pub record Sweeps (qs : List Rec) (s t queue : List ℕ) (start end : ℕ) : Type 0 where
   pub lent : Lent t queue end
   pub grown : Grown qs s t
@@ -20,11 +19,11 @@ pub record Sweeps (qs : List Rec) (s t queue : List ℕ) (start end : ℕ) : Typ
   pub waits : AllWait qs t queue start end
 
 pub sweeps_first : {qs : List Rec} {s t queue queue' : List ℕ} {end : ℕ} → Lent s queue 0 → SweptTo qs s t queue queue' 0 end →
-    Sweeps qs t t queue' 0 end
-sweeps_first {qs} {t = t} lent swept =
+    Sweeps qs s t queue' 0 end
+sweeps_first lent swept =
     record {
       lent = lent_ran lent swept.ran;
-      grown = grown_refl qs t swept.ran.grown.sheet;
+      grown = swept.ran.grown;
       within = omega arith;
       waits = swept.waits;
     }
@@ -39,9 +38,5 @@ module _ {qs : List Rec} {s t queue : List ℕ} {start end : ℕ} (so : Sweeps q
         waits = swept.waits;
       }
 
-  pub sweeps_rested : (u : List ℕ) (clash : Bool) → Rested qs t u clash → Rested qs s u clash
-  sweeps_rested u true clash = (clash.0, grown_clash so.grown clash.1)
-  sweeps_rested u false rested = (grown_trans so.grown rested.0, rested.1)
-
-  pub sweeps_end : end ≤ start → Rested qs s t false
+  pub sweeps_end : end ≤ start → Grown qs s t × AllStable qs t
   sweeps_end none = (so.grown, drain_end so.waits none)

@@ -36,7 +36,8 @@ pub stable_or_changed : (q : Rec) (s t : List ℕ) → Stable q s →
     ((p : Place) × Names q p × (get_or t (box_at q p) 2 ≡ get_or s (box_at q p) 2 → ⊥)) ⊎ Stable q t
 stable_or_changed q s t stable =
     ⊎_elim inl (λ same. inr (stable_moved q q s t refl (λ p m. sym (same p m)) stable))
-    (some_or_all (λ p. get_or t (box_at q p) 2 ≡ get_or s (box_at q p) 2) (λ p. ℕ_discrete (get_or t (box_at q p) 2) (get_or s (box_at q p) 2))
+    (some_or_all (λ p. get_or t (box_at q p) 2 ≡ get_or s (box_at q p) 2)
+    (λ p. ℕ_discrete (get_or t (box_at q p) 2) (get_or s (box_at q p) 2))
     (places_of (kind_of q.kind)))
 
 -- a longer part of the queue

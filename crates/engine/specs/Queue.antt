@@ -1,6 +1,6 @@
 -- Steps that note the boxes they settle in a queue, and rules that are at rest or wait for a box in it.
 -- Assumes nothing.
-use Rattle.std.specs.Prelude.{◌≡◌, ◌⊎◌, Bool, true, false, ℕ, ◌+◌, ◌≤◌, ◌<◌, length, get_or}
+use Rattle.std.specs.Prelude.{◌≡◌, ◌⊎◌, Bool, true, false, Result, Ok, Err, ℕ, ◌+◌, ◌≤◌, ◌<◌, length, get_or}
 use mathlib.Core.List.{List, [], ◌∷◌, Memᴰ}
 use Rattle.spec.specs.Kinds.{Place}
 use Rattle.spec.specs.Records.{Rec, box_at, bad}
@@ -8,8 +8,7 @@ use Rattle.spec.specs.Fill.{open_count}
 use Rattle.theory.specs.Steps.{Stable, Grown}
 use Rattle.theory.proofs.Places.{Names}
 use Rattle.engine.specs.Moves.{Cells, SomeClash}
-use Rattle.engine.specs.declared.step.Move.{Move}
-use Rattle.engine.specs.declared.step.Move.TheVariants.{Noted, Clash}
+use Rattle.engine.specs.declared.step.Clash.{Clash}
 
 -- states, and a queue of boxes with its end, which has room for every box that is open
 pub record Lent (s queue : List ℕ) (tail : ℕ) : Type 0 where
@@ -55,14 +54,23 @@ pub record Clashed (qs : List Rec) (s queue queue' : List ℕ) : Type 0 where
   pub clash : SomeClash qs s
   pub size : length queue' ≡ length queue
 
-abbrev pub Stepped : Rec → (s t queue queue' : List ℕ) → ℕ → Move → Type 0
-Stepped q s t queue queue' tail (Noted tail') = Fired q s t queue queue' tail tail'
-Stepped q s t queue queue' tail Clash = Clashed (q ∷ []) s queue queue'
+abbrev pub Stepped : Rec → (s t queue queue' : List ℕ) → ℕ → Result ℕ Clash → Type 0
+Stepped q s t queue queue' tail (Ok tail') = Fired q s t queue queue' tail tail'
+Stepped q s t queue queue' tail (Err _) = Clashed (q ∷ []) s queue queue'
 
 -- a record of the tables has had its step: its rules have fired if it counts as one, and else nothing changed
-abbrev pub RecordStepped : (counts : Bool) → Rec → (s t queue queue' : List ℕ) → ℕ → Move → Type 0
+abbrev pub RecordStepped : (counts : Bool) → Rec → (s t queue queue' : List ℕ) → ℕ → Result ℕ Clash → Type 0
 RecordStepped true q s t queue queue' tail answer = Stepped q s t queue queue' tail answer
-RecordStepped false q s t queue queue' tail answer = (t ≡ s) × (queue' ≡ queue) × (answer ≡ Noted tail)
+RecordStepped false q s t queue queue' tail answer = (t ≡ s) × (queue' ≡ queue) × (answer ≡ Ok tail)
+
+-- the records that have had their step before the i-th of a sweep, forward or back
+abbrev pub Seen : (back : Bool) (all i j : ℕ) → Type 0
+Seen false all i j = j < i
+Seen true all i j = all ≤ j + i
+
+-- record r is the i-th of a sweep: with it, one more is seen
+abbrev pub IsNext : (back : Bool) (all i r : ℕ) → Type 0
+IsNext back all i r = (j : ℕ) → Seen back all (i + 1) j → (j ≡ r → ⊥) → Seen back all i j
 
 -- the record names box b
 abbrev pub NamesBox : Rec → ℕ → Type 0
@@ -86,18 +94,18 @@ pub record SweptTo (qs : List Rec) (s t queue queue' : List ℕ) (tail tail' : �
   pub ran : Ran qs s t queue queue' tail tail'
   pub waits : AllWait qs t queue' tail tail'
 
-abbrev pub Swept : List Rec → (s t queue queue' : List ℕ) → ℕ → Move → Type 0
-Swept qs s t queue queue' tail (Noted tail') = SweptTo qs s t queue queue' tail tail'
-Swept qs s t queue queue' tail Clash = SomeClash qs s
+abbrev pub Swept : List Rec → (s t queue queue' : List ℕ) → ℕ → Result ℕ Clash → Type 0
+Swept qs s t queue queue' tail (Ok tail') = SweptTo qs s t queue queue' tail tail'
+Swept qs s t queue queue' tail (Err _) = SomeClash qs s
 
 -- every rule that names box b has had its step
 pub record VisitedTo (qs : List Rec) (b : ℕ) (s t queue queue' : List ℕ) (tail tail' : ℕ) : Type 0 where
   pub ran : Ran qs s t queue queue' tail tail'
   pub waits : (q : Rec) → Memᴰ q qs → NamesBox q b → Waits q t queue' tail tail'
 
-abbrev pub Visited : List Rec → ℕ → (s t queue queue' : List ℕ) → ℕ → Move → Type 0
-Visited qs b s t queue queue' tail (Noted tail') = VisitedTo qs b s t queue queue' tail tail'
-Visited qs b s t queue queue' tail Clash = Clashed qs s queue queue'
+abbrev pub Visited : List Rec → ℕ → (s t queue queue' : List ℕ) → ℕ → Result ℕ Clash → Type 0
+Visited qs b s t queue queue' tail (Ok tail') = VisitedTo qs b s t queue queue' tail tail'
+Visited qs b s t queue queue' tail (Err _) = Clashed qs s queue queue'
 
 -- only box b is settled since every rule was at rest
 abbrev pub Poised : List Rec → List ℕ → ℕ → Type 0

@@ -17,7 +17,7 @@ use index::{link, pack};
 use queue::drain;
 use records::count;
 use records::states::OPEN;
-use step::Move;
+pub use step::Clash;
 use sweep::sweep;
 
 // Makes the index and takes the boxes of the queue. Apart from `run`, so that only who needs an index has room for one.
@@ -28,7 +28,7 @@ fn run_queue<'a>(
     queue: &mut [u8; 256],
     from: usize,
     to: usize,
-) -> bool
+) -> Result<(), Clash>
     requires accepted { Accepted 256 maker.now depot.now }
     requires lent { Lent states.old queue.old to }
     requires from_le_to { from ≤ to }
@@ -54,45 +54,29 @@ fn more_sweeps(records: usize) -> usize {
     1
 }
 
-// Fills to rest; answers whether there was a clash. Sweeps forth and back settle most sheets and need no index; each box that one
+// Fills to rest, or answers a clash. Sweeps forth and back settle most sheets and need no index; each box that one
 // settles waits for the next, or for the queue.
-pub fn run<'a>(maker: &'a [u8], depot: &'a [u8], states: &mut [u8; 256]) -> bool
+pub fn run<'a>(maker: &'a [u8], depot: &'a [u8], states: &mut [u8; 256]) -> Result<(), Clash>
     requires accepted { Accepted 256 maker.now depot.now }
     requires cells { Cells states.old }
     ensures { Rested (rules_in maker.now depot.now) states.old states.new result }
 {
     let mut queue = [0; 256];
     let mut start = 0;
-    let mut end = 0;
-    let first = sweep(maker, depot, false, states, &mut queue, 0);
-    match first {
-        Move::Noted(noted) => {
-            end = noted;
-        }
-        Move::Clash => {
-            return true;
-        }
-    }
+    let mut end = sweep(maker, depot, false, states, &mut queue, 0)?;
     let mut left = more_sweeps(count(maker, depot));
     let mut back = true;
     'sweeps: while start < end {
         if left == 0 {
             return run_queue(maker, depot, states, &mut queue, start, end);
         }
-        let answer = sweep(maker, depot, back, states, &mut queue, end);
-        match answer {
-            Move::Noted(noted) => {
-                start = end;
-                end = noted;
-            }
-            Move::Clash => {
-                return true;
-            }
-        }
+        let noted = sweep(maker, depot, back, states, &mut queue, end)?;
+        start = end;
+        end = noted;
         left -= 1;
         back = !back;
     }
-    false
+    Ok(())
 }
 
 // Fills to rest with the tables' index, from any states.
@@ -104,7 +88,7 @@ pub fn run_indexed<'a>(
     first: &[u16; 256],
     next: &[u16; 4096],
     states: &mut [u8; 256],
-) -> bool
+) -> Result<(), Clash>
     requires accepted { Accepted 256 maker.now depot.now }
     requires packed { Packed packed.now m (rules_in maker.now depot.now) }
     requires linked { Linked packed.now (4 * m) first.now next.now }
@@ -112,11 +96,8 @@ pub fn run_indexed<'a>(
     ensures { Rested (packed_rules packed.now m) states.old states.new result }
 {
     let mut queue = [0; 256];
-    let forth = sweep(maker, depot, false, states, &mut queue, 0);
-    match forth {
-        Move::Clash => true,
-        Move::Noted(end) => drain(packed, m, first, next, states, &mut queue, 0, end),
-    }
+    let end = sweep(maker, depot, false, states, &mut queue, 0)?;
+    drain(packed, m, first, next, states, &mut queue, 0, end)
 }
 
 // Fills to rest where only box b is settled since every rule was at rest.
@@ -128,7 +109,7 @@ pub fn go_on(
     b: usize,
     states: &mut [u8; 256],
     queue: &mut [u8; 256],
-) -> bool
+) -> Result<(), Clash>
     requires packed { Packed packed.now m (packed_rules packed.now m) }
     requires linked { Linked packed.now (4 * m) first.now next.now }
     requires cells { Cells states.old }
@@ -139,7 +120,7 @@ pub fn go_on(
     ensures queue_len_2 { length queue.new ≡ 256 }
 {
     if states[b] == OPEN {
-        return false;
+        return Ok(());
     }
     queue[0] = b as u8;
     drain(packed, m, first, next, states, queue, 0, 1)

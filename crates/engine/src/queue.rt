@@ -4,7 +4,7 @@ ghost use Rattle.index.specs.Index.{Packed, Linked, Chained, rule_at, packed_rul
 ghost use Rattle.engine.specs.Moves.{Rested};
 ghost use Rattle.engine.specs.Queue.{Lent, StepInput, Stepped, AllWait, Visited};
 
-use crate::step::{Move, step};
+use crate::step::{Clash, step};
 use fire::at_rest;
 use index::box_of;
 
@@ -22,7 +22,7 @@ fn step_rule(
     states: &mut [u8; 256],
     queue: &mut [u8; 256],
     tail: usize,
-) -> Move
+) -> Result<usize, Clash>
     requires packed_len { length packed.now ≡ 4096 }
     requires j_bound { j < 1024 }
     requires step_input { StepInput (rule_at packed.now j) states.old queue.old tail }
@@ -35,7 +35,7 @@ fn step_rule(
     let z = box_of(packed[at + 3]);
     let kind = packed[at];
     if at_rest(kind, states[x], states[y], states[z]) {
-        return Move::Noted(tail);
+        return Ok(tail);
     }
     step(kind, x, y, z, states, queue, tail)
 }
@@ -50,7 +50,7 @@ fn visit(
     states: &mut [u8; 256],
     queue: &mut [u8; 256],
     start: usize,
-) -> Move
+) -> Result<usize, Clash>
     requires packed { Packed packed.now m (packed_rules packed.now m) }
     requires chained { Chained packed.now m next.now b head }
     requires lent { Lent states.old queue.old start }
@@ -60,21 +60,13 @@ fn visit(
     let mut tail = start;
     let mut e = head;
     while e != 0 {
-        let answer = step_rule(packed, e / 4, states, queue, tail);
-        match answer {
-            Move::Noted(end) => {
-                tail = end;
-            }
-            Move::Clash => {
-                return Move::Clash;
-            }
-        }
+        tail = step_rule(packed, e / 4, states, queue, tail)?;
         e = entry_of(next[e]);
     }
-    Move::Noted(tail)
+    Ok(tail)
 }
 
-// Takes the boxes of the queue one after the other, until none is left; answers whether there was a clash.
+// Takes the boxes of the queue one after the other, until none is left. No box is stored with both facts, so a clash ends it.
 pub fn drain(
     packed: &[u8; 4096],
     m: usize,
@@ -84,7 +76,7 @@ pub fn drain(
     queue: &mut [u8; 256],
     from: usize,
     to: usize,
-) -> bool
+) -> Result<(), Clash>
     requires packed { Packed packed.now m (packed_rules packed.now m) }
     requires linked { Linked packed.now (4 * m) first.now next.now }
     requires lent { Lent states.old queue.old to }
@@ -97,16 +89,8 @@ pub fn drain(
     let mut tail = to;
     while head < tail {
         let b = box_of(queue[head]);
-        let answer = visit(packed, m, next, b, entry_of(first[b]), states, queue, tail);
-        match answer {
-            Move::Noted(end) => {
-                tail = end;
-            }
-            Move::Clash => {
-                return true; // no box is stored with both facts, so nothing more is taken
-            }
-        }
+        tail = visit(packed, m, next, b, entry_of(first[b]), states, queue, tail)?;
         head += 1;
     }
-    false
+    Ok(())
 }

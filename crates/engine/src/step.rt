@@ -8,12 +8,9 @@ use fire::fire;
 use records::kinds::has_z;
 use records::states::BOTH;
 
-// The end of the queue once a step is done.
-#[derive(Clone, Copy)]
-pub enum Move {
-    Noted(usize),
-    Clash,
-}
+// A box would get both facts. In place of it a step answers the end of the queue.
+#[derive(Clone, Copy, Debug, PartialEq, Eq)]
+pub struct Clash;
 
 // Box b gets a state that it has already, or had open until now; then it is noted.
 fn settle(states: &mut [u8; 256], queue: &mut [u8; 256], tail: usize, b: usize, state: u8) -> usize
@@ -38,7 +35,7 @@ pub fn step(
     states: &mut [u8; 256],
     queue: &mut [u8; 256],
     tail: usize,
-) -> Move
+) -> Result<usize, Clash>
     requires step_input { StepInput (rule_of kind x y z) states.old queue.old tail }
     requires z_bound { z < 256 }
     ensures { Stepped (rule_of kind x y z) states.old states.new queue.old queue.new tail result }
@@ -50,12 +47,12 @@ pub fn step(
     // from both facts of one box both of every box follow, so x alone tells
     let told = c;
     if told == BOTH {
-        return Move::Clash;
+        return Err(Clash);
     }
     let after_x = settle(states, queue, tail, x, c);
     let after_y = settle(states, queue, after_x, y, d);
     if has_z(kind) {
-        return Move::Noted(settle(states, queue, after_y, z, e));
+        return Ok(settle(states, queue, after_y, z, e));
     }
-    Move::Noted(after_y)
+    Ok(after_y)
 }

@@ -10,16 +10,20 @@ use Rattle.engine.proofs.go_on.Goals as goal
 
 pub returns-then-states-b-eq-OPEN : goal.returns-then-states-b-eq-OPEN
 returns-then-states-b-eq-OPEN c =
-    let began = c in
-    let cells = began.requires.cells in
-    let poised = began.requires.poised in
-    record { rested = (grown_refl _ _ cells.sheet, poised_rests cells began.requires.b_bound poised c.if-states-b-eq-OPEN.true); queue_len_2 = began.requires.queue_len }
+    let r = c.requires in
+    record {
+      rested = (grown_refl _ _ r.cells.sheet, poised_rests r.cells r.b_bound r.poised c.if-states-b-eq-OPEN.true);
+      queue_len_2 = r.queue_len;
+    }
 
 pub drain-requires : goal.drain-requires
 drain-requires c =
-    let chosen = c in
-    let began = chosen in
-    let cells = began.requires.cells in
-    let below = began.requires.b_bound in
-    let poised = began.requires.poised in
-    let size = length-set began.args.queue.now 0 began.args.b ∙ began.requires.queue_len in record { packed = began.requires.packed; linked = began.requires.linked; lent = poised_lent cells below poised size chosen.if-states-b-eq-OPEN.false; from_le_to = omega arith; all_wait = poised_waits cells below poised size (get_or-set_same began.args.queue.now 0 began.args.b 0 (omega (arith, began.requires.queue_len))) }
+    let r = c.requires in
+    let size = length-set c.args.queue.now 0 c.args.b ∙ r.queue_len in
+    record {
+      packed = r.packed;
+      linked = r.linked;
+      lent = poised_lent r.cells r.b_bound r.poised size c.if-states-b-eq-OPEN.false;
+      from_le_to = omega arith;
+      all_wait = poised_waits r.cells r.b_bound r.poised size (get_or-set_same c.args.queue.now 0 c.args.b 0 (omega (arith, r.queue_len)));
+    }

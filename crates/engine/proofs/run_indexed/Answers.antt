@@ -4,27 +4,28 @@ use mathlib.Core.Path.{refl, subst⁻¹}
 use mathlib.Core.List.{List}
 use Prim.Native.Nat.{ℕ}
 use native.Mathlib.Omega.{arith}
+use Rattle.std.specs.Prelude.{Result, Ok, Err}
+use Rattle.std.proofs.lemmas.Result.{err_from_is_err_and}
 use Rattle.spec.specs.Records.{Rec}
 use Rattle.index.specs.Index.{Packed, packed_rules}
 use Rattle.index.proofs.Packing.{packed_own}
 use Rattle.engine.specs.Queue.{Swept}
-use Rattle.engine.specs.declared.step.Move.{Move}
-use Rattle.engine.specs.declared.step.Move.TheVariants.{Noted, Clash}
-use Rattle.engine.proofs.Running.{ran_rested, lent_ran}
+use Rattle.engine.specs.declared.step.Clash.{Clash}
+use Rattle.engine.proofs.Running.{grown_rested, lent_ran}
 use Rattle.engine.proofs.Draining.{zeros, lent_empty}
 use Rattle.engine.proofs.run_indexed.Goals as goal
 
 -- a sweep of the tables' rules is one of the packed rules, which are the same
-swept : {packed : List ℕ} {m : ℕ} {qs : List Rec} (s t queue : List ℕ) (answer : Move) →
+swept : {packed : List ℕ} {m : ℕ} {qs : List Rec} (s t queue : List ℕ) (answer : Result ℕ Clash) →
     Packed packed m qs → Swept qs s t zeros queue 0 answer → Swept (packed_rules packed m) s t zeros queue 0 answer
 swept s t queue answer packs gone = subst⁻¹ (λ (qs : List Rec). Swept qs s t zeros queue 0 answer) packs.rules gone
 
-pub sweep-forth-requires : goal.sweep-forth-requires
-sweep-forth-requires c = record { accepted = c.requires.accepted; lent = lent_empty c.requires.cells refl }
+pub sweep-requires : goal.sweep-requires
+sweep-requires c = record { accepted = c.requires.accepted; lent = lent_empty c.requires.cells refl }
 
 pub drain-requires : goal.drain-requires
 drain-requires c =
-    let gone = swept c.args.states.now c.sweep-forth.new.states c.sweep-forth.new.queue (Noted c.in-Noted.end) c.requires.packed c.in-Noted.ensures in
+    let gone = swept c.args.states.now c.sweep.new.states c.sweep.new.queue (Ok c.in_ok-end.end) c.requires.packed c.in_ok-end.ensures in
     record {
       packed = packed_own c.requires.packed;
       linked = c.requires.linked;
@@ -33,10 +34,12 @@ drain-requires c =
       all_wait = gone.waits;
     }
 
-pub returns-in-Clash : goal.returns-in-Clash
-returns-in-Clash c = swept c.args.states.now c.sweep-forth.new.states c.sweep-forth.new.queue Clash c.requires.packed c.in-Clash.ensures
+pub returns-in_err-end : goal.returns-in_err-end
+returns-in_err-end c =
+    rw (err_from_is_err_and c.from_residual.result c.from_residual.ensures.1).1
+    (swept c.args.states.now c.sweep.new.states c.sweep.new.queue (Err c.in_err-end.field-0.0) c.requires.packed c.in_err-end.ensures)
 
-pub returns-in-Noted : goal.returns-in-Noted
-returns-in-Noted c =
-    let gone = swept c.args.states.now c.sweep-forth.new.states c.sweep-forth.new.queue (Noted c.in-Noted.end) c.requires.packed c.in-Noted.ensures in
-    ran_rested gone.ran _ c.drain.result c.drain.ensures.rested
+pub returns : goal.returns
+returns c =
+    let gone = swept c.args.states.now c.sweep.new.states c.sweep.new.queue (Ok c.in_ok-end.end) c.requires.packed c.in_ok-end.ensures in
+    grown_rested gone.ran.grown _ c.drain.result c.drain.ensures.rested

@@ -16,21 +16,16 @@ link-requires c =
 
 pub drain-requires : goal.drain-requires
 drain-requires c =
-    let linked = c in
-    let packed = linked in
-    let packs = packed.pack-m.ensures in
-    let began = packed in record {
+    let packs = c.pack-m.ensures in
+    record {
       packed = packed_own packs;
-      linked = linked.link.ensures;
-      lent = began.requires.lent;
-      from_le_to = began.requires.from_le_to;
-      all_wait = subst⁻¹ (λ (qs : List Rec). AllWait qs began.args.states.now began.args.queue.now began.args.from began.args.to) packs.rules
-          began.requires.all_wait;
+      linked = c.link.ensures;
+      lent = c.requires.lent;
+      from_le_to = c.requires.from_le_to;
+      all_wait = subst⁻¹ (λ (qs : List Rec). AllWait qs c.args.states.now c.args.queue.now c.args.from c.args.to) packs.rules
+          c.requires.all_wait;
     }
 
 pub returns : goal.returns
 returns c =
-    let packed = c in
-    let began = packed in
-    subst (λ (qs : List Rec). Rested qs began.args.states.now c.drain.new.states c.drain.result) packed.pack-m.ensures.rules
-    c.drain.ensures.rested
+    subst (λ (qs : List Rec). Rested qs c.args.states.now c.drain.new.states c.drain.result) c.pack-m.ensures.rules c.drain.ensures.rested

@@ -3,17 +3,18 @@
 use mathlib.Core.Path.{subst, ◌∙◌}
 use Prim.Native.Nat.{ℕ}
 use native.Mathlib.Omega.{arith}
-use Rattle.theory.proofs.Growth.{grown_refl, grown_trans, grown_clash}
+use Rattle.std.proofs.lemmas.Result.{err_from_is_err_and}
+use Rattle.theory.proofs.Growth.{grown_refl, grown_trans}
 use Rattle.index.specs.Index.{packed_rules}
 use Rattle.engine.specs.Queue.{VisitedTo}
-use Rattle.engine.proofs.Running.{lent_ran}
+use Rattle.engine.proofs.Running.{lent_ran, clashed_since}
 use Rattle.engine.proofs.Draining.{chained, drain_step, drain_end}
 use Rattle.engine.proofs.queue.drain.Goals as goal
 
 pub loop-head-init : goal.loop-head-init
 loop-head-init c =
     let lent = c.requires.lent in
-    (c.requires.from_le_to, lent, grown_refl ((packed_rules c.args.packed.now c.args.m)) c.args.states.now lent.cells.sheet, c.requires.all_wait)
+    (c.requires.from_le_to, lent, grown_refl _ _ lent.cells.sheet, c.requires.all_wait)
 
 pub bounds-queue-head : goal.bounds-queue-head
 bounds-queue-head c = omega (arith, c.loop-head.invariant.1.room)
@@ -24,22 +25,28 @@ offset_bounds-first-b c = omega (arith, c.box_of-b.ensures.1)
 pub bounds-first-b : goal.bounds-first-b
 bounds-first-b c = c.box_of-b.ensures.1
 
-pub visit-answer-requires : goal.visit-answer-requires
-visit-answer-requires c =
-    let taken = c in
-    let at_loop = taken in record { packed = (at_loop).requires.packed; chained = rw c.entry_of.ensures (chained (at_loop).requires.linked taken.box_of-b.ensures.1); lent = at_loop.loop-head.invariant.1 }
+pub visit-requires : goal.visit-requires
+visit-requires c =
+    record {
+      packed = c.requires.packed;
+      chained = rw c.entry_of.ensures (chained c.requires.linked c.box_of-b.ensures.1);
+      lent = c.loop-head.invariant.1;
+    }
 
-pub returns-in-Clash : goal.returns-in-Clash
-returns-in-Clash c =
-    let lost = c.in-Clash.ensures in
+pub returns-in_err-tail : goal.returns-in_err-tail
+returns-in_err-tail c =
     let inv = c.loop-head.invariant in
-    record { rested = (lost.clash.0, grown_clash inv.2 lost.clash.1); queue_len = lost.size ∙ inv.1.size }
+    let lost = clashed_since inv.2 c.in_err-tail.ensures in
+    record {
+      rested = rw (err_from_is_err_and c.from_residual.result c.from_residual.ensures.1).1 lost.clash;
+      queue_len = lost.size ∙ inv.1.size;
+    }
 
 pub overflow_add-head : goal.overflow_add-head
-overflow_add-head c = omega (arith, (c).loop-head.invariant.1.room)
+overflow_add-head c = omega (arith, c.loop-head.invariant.1.room)
 
 pub loop-head-smaller : goal.loop-head-smaller
-loop-head-smaller c = omega (arith, (c).loop-head.invariant.1.room)
+loop-head-smaller c = omega (arith, c.loop-head.invariant.1.room)
 
 pub loop-head-preserved : goal.loop-head-preserved
 loop-head-preserved c =
@@ -48,9 +55,9 @@ loop-head-preserved c =
     let gone =
     subst
     (λ (b : ℕ).
-    VisitedTo (packed_rules c.args.packed.now c.args.m) b l.states c.visit-answer.new.states l.queue c.visit-answer.new.queue l.tail
-    c.in-Noted.end)
-    c.box_of-b.ensures.0 c.in-Noted.ensures in (
+    VisitedTo (packed_rules c.args.packed.now c.args.m) b l.states c.visit.new.states l.queue c.visit.new.queue l.tail
+    c.in_ok-tail.tail)
+    c.box_of-b.ensures.0 c.in_ok-tail.ensures in (
       omega (arith, gone.ran.queued.later),
       lent_ran c.loop-head.invariant.1 gone.ran,
       grown_trans c.loop-head.invariant.2 gone.ran.grown,

@@ -60,13 +60,13 @@ pub settle-after_x-requires : goal.settle-after_x-requires
 unfolding rule_of
 settle-after_x-requires c =
     let input = c.requires.step_input in
-    settling_x input (firing c.args.kind c.args.x c.args.y c.args.z input c.requires.z_bound c.fire-new.ensures)
-    (no_clash c.args.kind c.args.x c.args.y c.args.z input c.requires.z_bound c.fire-new.ensures c.if-told-eq-BOTH.false)
+    settling_x input (firing _ _ _ _ input c.requires.z_bound c.fire-new.ensures)
+    (no_clash _ _ _ _ input c.requires.z_bound c.fire-new.ensures c.if-told-eq-BOTH.false)
 
 pub returns-then-told-eq-BOTH : goal.returns-then-told-eq-BOTH
 returns-then-told-eq-BOTH c =
     record {
-      clash = step_clash (firing c.args.kind c.args.x c.args.y c.args.z c.requires.step_input c.requires.z_bound c.fire-new.ensures) 0 c.if-told-eq-BOTH.true;
+      clash = step_clash (firing _ _ _ _ c.requires.step_input c.requires.z_bound c.fire-new.ensures) 0 c.if-told-eq-BOTH.true;
       size = refl;
     }
 
@@ -74,8 +74,8 @@ pub settle-after_y-requires : goal.settle-after_y-requires
 unfolding rule_of
 settle-after_y-requires c =
     let input = c.requires.step_input in
-    settling_y input (firing c.args.kind c.args.x c.args.y c.args.z input c.requires.z_bound c.fire-new.ensures)
-    (no_clash c.args.kind c.args.x c.args.y c.args.z input c.requires.z_bound c.fire-new.ensures c.if-told-eq-BOTH.false) c.settle-after_x.ensures
+    settling_y input (firing _ _ _ _ input c.requires.z_bound c.fire-new.ensures)
+    (no_clash _ _ _ _ input c.requires.z_bound c.fire-new.ensures c.if-told-eq-BOTH.false) c.settle-after_x.ensures
 
 pub settle-requires : goal.settle-requires
 unfolding rule_of
@@ -84,8 +84,8 @@ settle-requires c =
     let apart = c.if-told-eq-BOTH.false in
     let there : z_missing (rule_of c.args.kind c.args.x c.args.y c.args.z) ≡ false =
     not-true _ (sym c.has_z.ensures ∙ c.if-has_z.true) in
-    settling_z input (firing_z c.args.kind c.args.x c.args.y c.args.z input c.requires.z_bound c.fire-new.ensures apart there)
-    (sheet_z c.args.kind c.args.x c.args.y c.args.z input c.requires.z_bound c.fire-new.ensures apart there) c.settle-after_x.ensures c.settle-after_y.ensures
+    settling_z input (firing_z _ _ _ _ input c.requires.z_bound c.fire-new.ensures apart there)
+    (sheet_z _ _ _ _ input c.requires.z_bound c.fire-new.ensures apart there) c.settle-after_x.ensures c.settle-after_y.ensures
     (rule_z c.args.kind c.args.x c.args.y c.args.z there) there
 
 pub returns-then-has_z : goal.returns-then-has_z
@@ -95,14 +95,14 @@ returns-then-has_z c =
     let apart = c.if-told-eq-BOTH.false in
     let there : z_missing (rule_of c.args.kind c.args.x c.args.y c.args.z) ≡ false =
     not-true _ (sym c.has_z.ensures ∙ c.if-has_z.true) in
-    triple_fired input (firing_z c.args.kind c.args.x c.args.y c.args.z input c.requires.z_bound c.fire-new.ensures apart there)
-    (sheet_z c.args.kind c.args.x c.args.y c.args.z input c.requires.z_bound c.fire-new.ensures apart there) c.settle-after_x.ensures c.settle-after_y.ensures
+    triple_fired input (firing_z _ _ _ _ input c.requires.z_bound c.fire-new.ensures apart there)
+    (sheet_z _ _ _ _ input c.requires.z_bound c.fire-new.ensures apart there) c.settle-after_x.ensures c.settle-after_y.ensures
     (rule_z c.args.kind c.args.x c.args.y c.args.z there) there c.settle.ensures
 
 pub returns : goal.returns
 unfolding rule_of
 returns c =
     let input = c.requires.step_input in
-    pair_fired input (firing c.args.kind c.args.x c.args.y c.args.z input c.requires.z_bound c.fire-new.ensures)
-    (no_clash c.args.kind c.args.x c.args.y c.args.z input c.requires.z_bound c.fire-new.ensures c.if-told-eq-BOTH.false) c.settle-after_x.ensures c.settle-after_y.ensures
+    pair_fired input (firing _ _ _ _ input c.requires.z_bound c.fire-new.ensures)
+    (no_clash _ _ _ _ input c.requires.z_bound c.fire-new.ensures c.if-told-eq-BOTH.false) c.settle-after_x.ensures c.settle-after_y.ensures
     (not-false _ (sym c.has_z.ensures ∙ c.if-has_z.false))

@@ -1,11 +1,7 @@
-use Prim.Native.Nat.{◌-◌, ◌≤◌}
 use Rattle.engine.specs.Queue.{Lent}
 use Rattle.engine.proofs.Sweeping.{SoFar}
 use Rattle.engine.proofs.sweep.sweep.Given as goal
 
 abbrev pub invariant-loop-i : goal.invariant-loop-i
 invariant-loop-i l =
-    (l.i ≤ l.all) × Lent l.states l.queue l.tail × SoFar l.maker l.depot l.back l.initial.states l.states l.initial.queue l.queue l.start l.tail l.i
-
-abbrev pub decreases-loop-i : goal.decreases-loop-i
-decreases-loop-i l = l.all - l.i
+    Lent l.states l.queue l.tail × SoFar l.maker l.depot l.back l.initial.states l.states l.initial.queue l.queue l.start l.tail l.i
