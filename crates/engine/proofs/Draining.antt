@@ -3,23 +3,21 @@
 use mathlib.Core.Path.{◌≡◌, sym, subst, ◌∙◌}
 use mathlib.Core.Logic.{⊎_elim}
 use mathlib.Core.List.{List}
-use Prim.Native.Nat.{ℕ, ◌+◌, ◌*◌, ◌≤◌, ◌<◌}
+use Prim.Native.Nat.{ℕ, ◌+◌, ◌≤◌, ◌<◌}
 use native.Mathlib.Omega.{arith}
 use native.Mathlib.Decide.{ℕ_discrete}
 use lib.ListN.{length, get_or, replicate}
 use Rattle.spec.specs.Records.{Rec}
 use Rattle.theory.specs.Steps.{Stable}
 use Rattle.engine.specs.Moves.{Cells, AllStable}
-use Rattle.index.specs.Index.{Linked, Chained}
-use Rattle.engine.specs.Queue.{Lent, Poised, HasBox, NamesBox, Waits, rests, named, AllWait, VisitedTo}
+use Rattle.index.specs.Whole.{Indexed}
+use Rattle.index.specs.declared.Index.{Index}
+use Rattle.index.proofs.Packing.{packed_own}
+use Rattle.engine.specs.Queue.{rules_of, Lent, Poised, HasBox, NamesBox, Waits, rests, named, AllWait, VisitedTo}
 use Rattle.theory.proofs.Measure.{open_within, open_fewer}
 use Rattle.engine.proofs.Queueing.{has_later}
 use Rattle.engine.proofs.Settled.{cells_read}
 use Rattle.engine.proofs.Waiting.{stable_waits, waits_from}
-
-pub chained : {packed : List ℕ} {m : ℕ} {first next : List ℕ} {b : ℕ} → Linked packed (4 * m) first next → b < 256 →
-    Chained packed m next b (get_or first b 0)
-chained {b = b} linked below = record { size = linked.next_size; top = linked.heads b below; links = linked.links b }
 
 module _ {qs : List Rec} {t queue : List ℕ} {head tail : ℕ} (waits : AllWait qs t queue head tail) where
   pub drain_end : tail ≤ head → AllStable qs t
@@ -49,6 +47,10 @@ module _ {qs : List Rec} {t queue : List ℕ} {head tail : ℕ} (waits : AllWait
       at : Waits q t queue head tail → Waits q u queue' (head + 1) tail'
       at (rests stable) = longer (stable_waits visited.ran.queued q stable)
       at (named b names has) = left b names has (ℕ_discrete has.at head)
+
+-- an index of some rules is one of its own
+pub indexed_own : {i : Index} {qs : List Rec} → Indexed i qs → Indexed i (rules_of i)
+indexed_own indexed = record { packs = packed_own indexed.packs; links = indexed.links }
 
 -- an empty queue
 abbrev pub zeros : List ℕ

@@ -78,9 +78,9 @@ module _ (maker depot : List ℕ) where
       sweep_clash u queue'' lost step =
           ran_clash so.ran (stepped_clash its t u queue' queue'' tail' rules (is_rule its) member lost step)
 
-      pub sweep_step : IsNext back (record_count maker depot) i r → (u queue'' : List ℕ) (tail'' : ℕ) →
+      pub sweep_step : {all : ℕ} → all ≡ record_count maker depot → IsNext back all i r → (u queue'' : List ℕ) (tail'' : ℕ) →
           RecordStepped (is_rule its) its t u queue' queue'' tail' (Ok tail'') → SoFar back s u queue queue'' tail tail'' (i + 1)
-      sweep_step is-next u queue'' tail'' step =
+      sweep_step is is-next u queue'' tail'' step =
           record { ran = ran_trans so.ran moved; waits = λ j l seen counts. at j l seen counts (ℕ_discrete j r) }
         where
           moved : Ran rules t u queue' queue'' tail' tail''
@@ -94,4 +94,4 @@ module _ (maker depot : List ℕ) where
               (stepped_rests its t u queue' queue'' tail' tail'' (is_rule its)
               (subst (λ (k : ℕ). is_rule (record_at maker depot k) ≡ true) e counts) step))
           at j l seen counts (no ¬e) =
-              waits_queued moved.queued (record_at maker depot j) so.ran.queued.later (so.waits j l (is-next j seen ¬e) counts)
+              waits_queued moved.queued (record_at maker depot j) so.ran.queued.later (so.waits j l (rw is at is-next j seen ¬e) counts)

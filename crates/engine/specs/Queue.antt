@@ -7,8 +7,14 @@ use Rattle.spec.specs.Records.{Rec, box_at, bad}
 use Rattle.spec.specs.Fill.{open_count}
 use Rattle.theory.specs.Steps.{Stable, Grown}
 use Rattle.theory.proofs.Places.{Names}
+use Rattle.index.specs.Index.{packed_rules}
+use Rattle.index.specs.declared.Index.{Index}
 use Rattle.engine.specs.Moves.{Cells, SomeClash}
 use Rattle.engine.specs.declared.step.Clash.{Clash}
+
+-- the rules of an index
+abbrev pub rules_of : Index → List Rec
+rules_of index = packed_rules index.packed index.rules
 
 -- states, and a queue of boxes with its end, which has room for every box that is open
 pub record Lent (s queue : List ℕ) (tail : ℕ) : Type 0 where

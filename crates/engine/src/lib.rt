@@ -6,41 +6,34 @@ mod queue;
 mod step;
 mod sweep;
 
-ghost use Rattle.std.specs.Prelude.{◌≡◌, ◌*◌, ◌<◌, ◌≤◌, length};
+ghost use Rattle.std.specs.Prelude.{◌≡◌, ◌<◌, ◌≤◌, length};
 ghost use Rattle.spec.specs.Records.{rules_in};
-ghost use Rattle.spec.proofs.Accepted.{Accepted};
-ghost use Rattle.index.specs.Index.{Packed, Linked, packed_rules};
+ghost use Rattle.index.specs.Whole.{Indexed};
 ghost use Rattle.engine.specs.Moves.{Cells, Rested};
-ghost use Rattle.engine.specs.Queue.{Lent, AllWait, Poised};
+ghost use Rattle.engine.specs.Queue.{rules_of, Lent, AllWait, Poised};
 
-use index::{link, pack};
+use index::Index;
 use queue::drain;
-use records::count;
 use records::states::OPEN;
 pub use step::Clash;
 use sweep::sweep;
+use tables::Tables;
 
 // Makes the index and takes the boxes of the queue. Apart from `run`, so that only who needs an index has room for one.
-fn run_queue<'a>(
-    maker: &'a [u8],
-    depot: &'a [u8],
+fn run_queue(
+    t: Tables,
     states: &mut [u8; 256],
     queue: &mut [u8; 256],
     from: usize,
     to: usize,
 ) -> Result<(), Clash>
-    requires accepted { Accepted 256 maker.now depot.now }
     requires lent { Lent states.old queue.old to }
     requires from_le_to { from ≤ to }
-    requires all_wait { AllWait (rules_in maker.now depot.now) states.old queue.old from to }
-    ensures { Rested (rules_in maker.now depot.now) states.old states.new result }
+    requires all_wait { AllWait (rules_in t.maker.now t.depot.now) states.old queue.old from to }
+    ensures { Rested (rules_in t.entry.maker.now t.entry.depot.now) states.old states.new result }
 {
-    let mut packed = [0; 4096];
-    let mut first = [0; 256];
-    let mut next = [0; 4096];
-    let m = pack(maker, depot, &mut packed);
-    link(&packed, m, &mut first, &mut next);
-    drain(&packed, m, &first, &next, states, queue, from, to)
+    let index = Index::of(t);
+    drain(&index, states, queue, from, to)
 }
 
 // How many sweeps may follow the first. Over few records many of them cost less than one index; over many, one more at most.
@@ -54,23 +47,22 @@ fn more_sweeps(records: usize) -> usize {
     1
 }
 
-// Fills to rest, or answers a clash. Sweeps forth and back settle most sheets and need no index; each box that one
-// settles waits for the next, or for the queue.
-pub fn run<'a>(maker: &'a [u8], depot: &'a [u8], states: &mut [u8; 256]) -> Result<(), Clash>
-    requires accepted { Accepted 256 maker.now depot.now }
+// Fills to rest, or answers a clash. Sweeps forth and back settle most sheets and need no index; each box that one settles waits
+// for the next, or for the queue.
+pub fn run(t: Tables, states: &mut [u8; 256]) -> Result<(), Clash>
     requires cells { Cells states.old }
-    ensures { Rested (rules_in maker.now depot.now) states.old states.new result }
+    ensures { Rested (rules_in t.entry.maker.now t.entry.depot.now) states.old states.new result }
 {
     let mut queue = [0; 256];
     let mut start = 0;
-    let mut end = sweep(maker, depot, false, states, &mut queue, 0)?;
-    let mut left = more_sweeps(count(maker, depot));
+    let mut end = sweep(t, false, states, &mut queue, 0)?;
+    let mut left = more_sweeps(t.records());
     let mut back = true;
     'sweeps: while start < end {
         if left == 0 {
-            return run_queue(maker, depot, states, &mut queue, start, end);
+            return run_queue(t, states, &mut queue, start, end);
         }
-        let noted = sweep(maker, depot, back, states, &mut queue, end)?;
+        let noted = sweep(t, back, states, &mut queue, end)?;
         start = end;
         end = noted;
         left -= 1;
@@ -80,48 +72,34 @@ pub fn run<'a>(maker: &'a [u8], depot: &'a [u8], states: &mut [u8; 256]) -> Resu
 }
 
 // Fills to rest with the tables' index, from any states.
-pub fn run_indexed<'a>(
-    maker: &'a [u8],
-    depot: &'a [u8],
-    packed: &[u8; 4096],
-    m: usize,
-    first: &[u16; 256],
-    next: &[u16; 4096],
-    states: &mut [u8; 256],
-) -> Result<(), Clash>
-    requires accepted { Accepted 256 maker.now depot.now }
-    requires packed { Packed packed.now m (rules_in maker.now depot.now) }
-    requires linked { Linked packed.now (4 * m) first.now next.now }
+pub fn run_indexed(t: Tables, index: &Index, states: &mut [u8; 256]) -> Result<(), Clash>
+    requires indexed { Indexed index.now (rules_in t.maker.now t.depot.now) }
     requires cells { Cells states.old }
-    ensures { Rested (packed_rules packed.now m) states.old states.new result }
+    ensures { Rested (rules_of index.now) states.old states.new result }
 {
     let mut queue = [0; 256];
-    let end = sweep(maker, depot, false, states, &mut queue, 0)?;
-    drain(packed, m, first, next, states, &mut queue, 0, end)
+    let end = sweep(t, false, states, &mut queue, 0)?;
+    drain(index, states, &mut queue, 0, end)
 }
 
 // Fills to rest where only box b is settled since every rule was at rest.
 pub fn go_on(
-    packed: &[u8; 4096],
-    m: usize,
-    first: &[u16; 256],
-    next: &[u16; 4096],
+    index: &Index,
     b: usize,
     states: &mut [u8; 256],
     queue: &mut [u8; 256],
 ) -> Result<(), Clash>
-    requires packed { Packed packed.now m (packed_rules packed.now m) }
-    requires linked { Linked packed.now (4 * m) first.now next.now }
+    requires indexed { Indexed index.now (rules_of index.now) }
     requires cells { Cells states.old }
     requires b_bound { b < 256 }
-    requires poised { Poised (packed_rules packed.now m) states.old b }
+    requires poised { Poised (rules_of index.now) states.old b }
     requires queue_len { length queue.old ≡ 256 }
-    ensures rested { Rested (packed_rules packed.now m) states.old states.new result }
+    ensures rested { Rested (rules_of index.now) states.old states.new result }
     ensures queue_len_2 { length queue.new ≡ 256 }
 {
     if states[b] == OPEN {
         return Ok(());
     }
     queue[0] = b as u8;
-    drain(packed, m, first, next, states, queue, 0, 1)
+    drain(index, states, queue, 0, 1)
 }

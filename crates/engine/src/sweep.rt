@@ -1,13 +1,13 @@
 // Sweeps: every record of the tables has its step once, forward or back. A sweep needs no index, and leaves most sheets at rest.
 ghost use Rattle.std.specs.Prelude.{◌<◌};
 ghost use Rattle.spec.specs.Records.{is_rule, rules_in};
-ghost use Rattle.spec.proofs.Accepted.{Accepted};
 ghost use Rattle.records.specs.Record.{as_rec};
 ghost use Rattle.engine.specs.Queue.{Lent, StepInput, RecordStepped, IsNext, Swept};
 
 use crate::step::{Clash, step};
 use fire::at_rest;
-use records::{Record, count, is_rule, record_at};
+use records::{Record, is_rule};
+use tables::Tables;
 
 // A record of the tables has its step. One that is no rule is passed over, and one at rest, as most are, told by a look.
 fn step_record(
@@ -43,24 +43,21 @@ fn turn(back: bool, all: usize, i: usize) -> usize
 }
 
 // Steps through every record once, forward or back.
-pub fn sweep<'a>(
-    maker: &'a [u8],
-    depot: &'a [u8],
+pub fn sweep(
+    t: Tables,
     back: bool,
     states: &mut [u8; 256],
     queue: &mut [u8; 256],
     start: usize,
 ) -> Result<usize, Clash>
-    requires accepted { Accepted 256 maker.now depot.now }
     requires lent { Lent states.old queue.old start }
-    ensures { Swept (rules_in maker.now depot.now) states.old states.new
+    ensures { Swept (rules_in t.entry.maker.now t.entry.depot.now) states.old states.new
         queue.old queue.new start result }
 {
-    let all = count(maker, depot);
+    let all = t.records();
     let mut tail = start;
     for i in 0..all {
-        let number = turn(back, all, i);
-        tail = step_record(record_at(maker, depot, number), states, queue, tail)?;
+        tail = step_record(t.record(turn(back, all, i)), states, queue, tail)?;
     }
     Ok(tail)
 }

@@ -21,8 +21,7 @@ drain-requires c =
     let r = c.requires in
     let size = length-set c.args.queue.now 0 c.args.b ∙ r.queue_len in
     record {
-      packed = r.packed;
-      linked = r.linked;
+      indexed = r.indexed;
       lent = poised_lent r.cells r.b_bound r.poised size c.if-states-b-eq-OPEN.false;
       from_le_to = omega arith;
       all_wait = poised_waits r.cells r.b_bound r.poised size (get_or-set_same c.args.queue.now 0 c.args.b 0 (omega (arith, r.queue_len)));

@@ -10,7 +10,7 @@ use Rattle.engine.proofs.Sweeps.{sweeps_first, sweeps_next, sweeps_end}
 use Rattle.engine.proofs.run.Goals as goal
 
 pub sweep-requires : goal.sweep-requires
-sweep-requires c = record { accepted = c.requires.accepted; lent = lent_empty c.requires.cells refl }
+sweep-requires c = record { lent = lent_empty c.requires.cells refl }
 
 pub sweeps-init : goal.sweeps-init
 sweeps-init c = sweeps_first (lent_empty {queue = zeros} c.requires.cells refl) c.in_ok-end.ensures
@@ -18,14 +18,14 @@ sweeps-init c = sweeps_first (lent_empty {queue = zeros} c.requires.cells refl) 
 pub run_queue-requires : goal.run_queue-requires
 run_queue-requires c =
     let so = c.sweeps.invariant in
-    record { accepted = c.requires.accepted; lent = so.lent; from_le_to = so.within; all_wait = so.waits }
+    record { lent = so.lent; from_le_to = so.within; all_wait = so.waits }
 
 pub returns-then-left-eq0 : goal.returns-then-left-eq0
 returns-then-left-eq0 c =
     grown_rested c.sweeps.invariant.grown c.run_queue.new.states c.run_queue.result c.run_queue.ensures
 
 pub sweep-requires-in-sweeps : goal.sweep-requires-in-sweeps
-sweep-requires-in-sweeps c = record { accepted = c.requires.accepted; lent = c.sweeps.invariant.lent }
+sweep-requires-in-sweeps c = record { lent = c.sweeps.invariant.lent }
 
 pub returns-in_err-noted : goal.returns-in_err-noted
 returns-in_err-noted c =

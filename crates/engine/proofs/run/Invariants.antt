@@ -4,7 +4,7 @@ use Rattle.engine.proofs.run.Given as goal
 
 abbrev pub invariant-sweeps : goal.invariant-sweeps
 invariant-sweeps l =
-    Sweeps (rules_in l.maker l.depot) l.fn.states l.states l.queue l.start l.end
+    Sweeps (rules_in l.t.maker.now l.t.depot.now) l.fn.states l.states l.queue l.start l.end
 
 abbrev pub decreases-sweeps : goal.decreases-sweeps
 decreases-sweeps l = l.left

@@ -5,27 +5,21 @@ use mathlib.Core.List.{List}
 use Rattle.spec.specs.Records.{Rec}
 use Rattle.engine.specs.Moves.{Rested}
 use Rattle.engine.specs.Queue.{AllWait}
-use Rattle.index.proofs.Packing.{packed_good, packed_own}
-use Rattle.index.proofs.Linking.{linked_zeros}
+use Rattle.engine.proofs.Draining.{indexed_own}
 use Rattle.engine.proofs.run_queue.Goals as goal
-
-pub link-requires : goal.link-requires
-link-requires c =
-    let packs = c.pack-m.ensures in
-    record { m_bound = packs.room; good = packed_good packs; linked = linked_zeros _ }
 
 pub drain-requires : goal.drain-requires
 drain-requires c =
-    let packs = c.pack-m.ensures in
+    let indexed = c.of-index.ensures in
     record {
-      packed = packed_own packs;
-      linked = c.link.ensures;
+      indexed = indexed_own indexed;
       lent = c.requires.lent;
       from_le_to = c.requires.from_le_to;
-      all_wait = subst⁻¹ (λ (qs : List Rec). AllWait qs c.args.states.now c.args.queue.now c.args.from c.args.to) packs.rules
+      all_wait = subst⁻¹ (λ (qs : List Rec). AllWait qs c.args.states.now c.args.queue.now c.args.from c.args.to) indexed.packs.rules
           c.requires.all_wait;
     }
 
 pub returns : goal.returns
 returns c =
-    subst (λ (qs : List Rec). Rested qs c.args.states.now c.drain.new.states c.drain.result) c.pack-m.ensures.rules c.drain.ensures.rested
+    subst (λ (qs : List Rec). Rested qs c.args.states.now c.drain.new.states c.drain.result) c.of-index.ensures.packs.rules
+    c.drain.ensures.rested

@@ -5,10 +5,9 @@ use Prim.Native.Nat.{ℕ}
 use native.Mathlib.Omega.{arith}
 use Rattle.std.proofs.lemmas.Result.{err_from_is_err_and}
 use Rattle.theory.proofs.Growth.{grown_refl, grown_trans}
-use Rattle.index.specs.Index.{packed_rules}
-use Rattle.engine.specs.Queue.{VisitedTo}
+use Rattle.engine.specs.Queue.{rules_of, VisitedTo}
 use Rattle.engine.proofs.Running.{lent_ran, clashed_since}
-use Rattle.engine.proofs.Draining.{chained, drain_step, drain_end}
+use Rattle.engine.proofs.Draining.{drain_step, drain_end}
 use Rattle.engine.proofs.queue.drain.Goals as goal
 
 pub loop-head-init : goal.loop-head-init
@@ -19,19 +18,9 @@ loop-head-init c =
 pub bounds-queue-head : goal.bounds-queue-head
 bounds-queue-head c = omega (arith, c.loop-head.invariant.1.room)
 
-pub offset_bounds-first-b : goal.offset_bounds-first-b
-offset_bounds-first-b c = omega (arith, c.box_of-b.ensures.1)
-
-pub bounds-first-b : goal.bounds-first-b
-bounds-first-b c = c.box_of-b.ensures.1
-
 pub visit-requires : goal.visit-requires
 visit-requires c =
-    record {
-      packed = c.requires.packed;
-      chained = rw c.entry_of.ensures (chained c.requires.linked c.box_of-b.ensures.1);
-      lent = c.loop-head.invariant.1;
-    }
+    record { indexed = c.requires.indexed; b_bound = c.box_of.ensures.1; lent = c.loop-head.invariant.1 }
 
 pub returns-in_err-tail : goal.returns-in_err-tail
 returns-in_err-tail c =
@@ -54,14 +43,12 @@ loop-head-preserved c =
     -- the visit was of the box that was taken
     let gone =
     subst
-    (λ (b : ℕ).
-    VisitedTo (packed_rules c.args.packed.now c.args.m) b l.states c.visit.new.states l.queue c.visit.new.queue l.tail
-    c.in_ok-tail.tail)
-    c.box_of-b.ensures.0 c.in_ok-tail.ensures in (
+    (λ (b : ℕ). VisitedTo (rules_of c.args.index.now) b l.states c.visit.new.states l.queue c.visit.new.queue l.tail c.in_ok-tail.tail)
+    c.box_of.ensures.0 c.in_ok-tail.ensures in (
       omega (arith, gone.ran.queued.later),
-      lent_ran c.loop-head.invariant.1 gone.ran,
-      grown_trans c.loop-head.invariant.2 gone.ran.grown,
-      drain_step c.loop-head.invariant.3 (omega arith) gone,
+      lent_ran l.invariant.1 gone.ran,
+      grown_trans l.invariant.2 gone.ran.grown,
+      drain_step l.invariant.3 (omega arith) gone,
     )
 
 pub returns : goal.returns

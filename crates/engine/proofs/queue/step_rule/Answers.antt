@@ -34,20 +34,20 @@ module _ (packed : List ℕ) (j : ℕ) {x y z : ℕ} (is_x : x ≡ get_or packed
 
 pub at_rest-requires : goal.at_rest-requires
 at_rest-requires c =
-    let input = read_input c.args.packed.now c.args.j c.box_of-x.ensures.0 c.box_of-y.ensures.0 c.box_of-z.ensures.0 c.requires.step_input in
+    let input = read_input c.args.index.now.packed c.args.j c.box_of-x.ensures.0 c.box_of-y.ensures.0 c.box_of-z.ensures.0 c.requires.step_input in
     look_states _ _ _ _ input c.box_of-z.ensures.1
 
 pub returns-then-at_rest : goal.returns-then-at_rest
 returns-then-at_rest c =
-    let input = read_input c.args.packed.now c.args.j c.box_of-x.ensures.0 c.box_of-y.ensures.0 c.box_of-z.ensures.0 c.requires.step_input in
-    read_step c.args.packed.now c.args.j c.box_of-x.ensures.0 c.box_of-y.ensures.0 c.box_of-z.ensures.0 _ _ _ _ _ (Ok c.args.tail)
+    let input = read_input c.args.index.now.packed c.args.j c.box_of-x.ensures.0 c.box_of-y.ensures.0 c.box_of-z.ensures.0 c.requires.step_input in
+    read_step c.args.index.now.packed c.args.j c.box_of-x.ensures.0 c.box_of-y.ensures.0 c.box_of-z.ensures.0 _ _ _ _ _ (Ok c.args.tail)
     (look_fired _ _ _ _ input c.box_of-z.ensures.1 (c.at_rest.ensures c.if-at_rest.true))
 
 pub step-requires : goal.step-requires
 step-requires c =
-    let input = read_input c.args.packed.now c.args.j c.box_of-x.ensures.0 c.box_of-y.ensures.0 c.box_of-z.ensures.0 c.requires.step_input in
+    let input = read_input c.args.index.now.packed c.args.j c.box_of-x.ensures.0 c.box_of-y.ensures.0 c.box_of-z.ensures.0 c.requires.step_input in
     record { step_input = input; z_bound = c.box_of-z.ensures.1 }
 
 pub returns : goal.returns
 returns c =
-    read_step c.args.packed.now c.args.j c.box_of-x.ensures.0 c.box_of-y.ensures.0 c.box_of-z.ensures.0 _ _ _ _ _ c.step.result c.step.ensures
+    read_step c.args.index.now.packed c.args.j c.box_of-x.ensures.0 c.box_of-y.ensures.0 c.box_of-z.ensures.0 _ _ _ _ _ c.step.result c.step.ensures

@@ -7,6 +7,7 @@ use native.Mathlib.Omega.{arith}
 use Rattle.std.specs.Prelude.{Result, Ok, Err}
 use Rattle.std.proofs.lemmas.Result.{err_from_is_err_and}
 use Rattle.spec.specs.Records.{Rec, is_rule, record_count}
+use Rattle.spec.proofs.Accepted.{accepted_all}
 use Rattle.engine.specs.Queue.{RecordStepped}
 use Rattle.engine.specs.declared.step.Clash.{Clash}
 use Rattle.engine.proofs.Running.{lent_ran}
@@ -20,33 +21,32 @@ StepOf s t queue queue' tail answer q = RecordStepped (is_rule q) q s t queue qu
 pub loop-i-init : goal.loop-i-init
 loop-i-init c = (c.requires.lent, sweep_start _ _ c.args.back c.requires.lent.cells.sheet)
 
-pub record_at-requires : goal.record_at-requires
-record_at-requires c =
-    record { whole_records = c.requires.accepted.whole; number_bound = omega (arith, c.turn-number.ensures.within, c.count-all.ensures) }
+pub record-requires : goal.record-requires
+record-requires c = omega (arith, c.turn.ensures.within)
 
 pub step_record-requires : goal.step_record-requires
 step_record-requires c =
-    let below : c.turn-number.result < record_count c.args.maker.now c.args.depot.now =
-    omega (arith, c.turn-number.ensures.within, c.count-all.ensures) in
-    record { good = rw c.record_at.ensures (c.requires.accepted.good c.turn-number.result below); lent = c.loop-i.invariant.0 }
+    let below : c.turn.result < record_count c.args.t.maker.now c.args.t.depot.now = omega (arith, c.turn.ensures.within) in
+    let good = (accepted_all c.args.t.accepted).good c.turn.result below in
+    record { good = rw c.record.ensures good; lent = c.loop-i.invariant.0 }
 
 pub returns-in_err-tail : goal.returns-in_err-tail
 returns-in_err-tail c =
     let l = c.loop-i in
     rw (err_from_is_err_and c.from_residual.result c.from_residual.ensures.1).1
-    (sweep_clash _ _ l.invariant.1 c.turn-number.result (omega (arith, c.turn-number.ensures.within, c.count-all.ensures)) _ _ _
+    (sweep_clash _ _ l.invariant.1 c.turn.result (omega (arith, c.turn.ensures.within)) _ _ _
     (subst (StepOf l.states c.step_record.new.states l.queue c.step_record.new.queue l.tail (Err c.in_err-tail.field-0.0))
-    c.record_at.ensures c.in_err-tail.ensures))
+    c.record.ensures c.in_err-tail.ensures))
 
 pub loop-i-preserved : goal.loop-i-preserved
 loop-i-preserved c =
     let l = c.loop-i in
     let so_far =
-    sweep_step _ _ l.invariant.1 c.turn-number.result (omega (arith, c.turn-number.ensures.within, c.count-all.ensures))
-    (rw (← c.count-all.ensures) c.turn-number.ensures.next) _ _ c.in_ok-tail.tail
+    sweep_step _ _ l.invariant.1 c.turn.result (omega (arith, c.turn.ensures.within)) (omega arith) c.turn.ensures.next _ _
+    c.in_ok-tail.tail
     (subst (StepOf l.states c.step_record.new.states l.queue c.step_record.new.queue l.tail (Ok c.in_ok-tail.tail))
-    c.record_at.ensures c.in_ok-tail.ensures) in
+    c.record.ensures c.in_ok-tail.ensures) in
     (lent_ran c.requires.lent so_far.ran, so_far)
 
 pub returns : goal.returns
-returns c = sweep_end _ _ c.loop-i.invariant.1 (omega (arith, c.count-all.ensures))
+returns c = sweep_end _ _ c.loop-i.invariant.1 (omega arith)
