@@ -1,2 +1,2 @@
-pub mod OfForm
+pub mod Back
 pub mod Told

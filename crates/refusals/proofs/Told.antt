@@ -7,7 +7,7 @@ use lib.ListN.{get_or}
 use Rattle.spec.specs.Refusals.{Refusal, Said, refused, answered}
 use Rattle.refusals.specs.declared.Numbers.{Numbers}
 use Rattle.refusals.specs.Telling.{refused_numbers, done_with, numbers_of, in_order, numbers_from, refusal_in}
-use Rattle.refusals.proofs.OfForm.{numbers_back}
+use Rattle.refusals.proofs.Back.{numbers_back}
 
 -- what is told of one answer is told of another that is the same
 pub told : {A : Type 0} (tells : A → List ℕ) {l : List ℕ} {a b : A} → a ≡ b → l ≡ tells b → l ≡ tells a

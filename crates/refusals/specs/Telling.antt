@@ -1,14 +1,15 @@
--- How a refusal, and any answer, is told: a refusal of form by the paper's number and place; an answer as three numbers; a refusal in
+-- How a refusal, and any answer, is told: a refusal by the paper's number and place; an answer as three numbers; a refusal in
 -- words. The three numbers are 0 where the operation has done what it was asked, 1 where it is refused, 2 where a record is broken; then
 -- the values, and 0 where there is none. No proof says how many they are: it goes by `in_order` and `numbers_from`.
 -- Assumes nothing.
-use Rattle.std.specs.Prelude.{List, [], ◌∷◌, ◌++◌, ℕ, get_or}
+use Rattle.std.specs.Prelude.{List, [], ◌∷◌, ◌++◌, ℕ, get_or, Result, Ok, Err}
 use Rattle.spec.specs.Refusals.{Refusal as Numbered, reason, number_of, place_of, Said, refused, answered}
 use Rattle.text.specs.Spelling.{field}
 use Rattle.refusals.specs.declared.Numbers.{Numbers}
 use Rattle.refusals.specs.declared.Refusal.{Refusal}
 use Rattle.refusals.specs.declared.Refusal.TheVariants.{BoxCount, MakerLength, DepotLength, RecordCount}
 use Rattle.refusals.specs.declared.Refusal.TheVariants.{BadRecord, SheetByte, GivenLength, OutLength, ListByte}
+use Rattle.refusals.specs.declared.Refusal.TheVariants.{Clash, Broken, NoList, LinesLength, WrongLine}
 
 -- the paper's number and place for every case
 abbrev pub refusal_of : Refusal → Numbered
@@ -21,6 +22,16 @@ refusal_of (SheetByte box) = reason 4 box
 refusal_of GivenLength = reason 5 0
 refusal_of OutLength = reason 5 1
 refusal_of (ListByte box) = reason 6 box
+refusal_of Clash = reason 7 0
+refusal_of (Broken number) = reason 8 number
+refusal_of NoList = reason 9 0
+refusal_of LinesLength = reason 10 0
+refusal_of (WrongLine line) = reason 11 line
+
+-- what an operation's answer says, with `own` for what is said of its own kind of answer
+abbrev pub said : {A B : Type 0} → (own : A → B) → Result A Refusal → Said B
+said own (Ok answer) = answered (own answer)
+said own (Err why) = refused (refusal_of why)
 
 -- a refusal as three numbers, and in words
 abbrev pub refused_numbers : Numbered → List ℕ

@@ -1,6 +1,7 @@
-// What is wrong with the form of a call; and any answer as three numbers, for a program that prints it and for a caller that has no
-// enums. The first number is 0 where the operation has done what it was asked, 1 where it is refused and 2 where a record is broken.
-// The other two are the values: a refusal's number and place, the broken record, a count; and 0 where there is none.
+// Why a call is refused: one enum for the paper's table, so that every operation answers a `Result` with it; and any answer as three
+// numbers, for a program that prints it and for a caller that has no enums. The first number is 0 where the operation has done what it
+// was asked, 1 where it is refused and 2 where a record is broken. The other two are the values: a refusal's number and place, the
+// broken record, a count; and 0 where there is none.
 #![tactic(auto)]
 
 ghost use Rattle.std.specs.Prelude.{◌≡◌, [], ◌∷◌, ◌+◌, ◌≤◌, length};
@@ -10,7 +11,8 @@ ghost use Rattle.refusals.specs.Telling.{refusal_of, refused_numbers, done_with,
 
 use text::put_field;
 
-#[derive(Clone, Copy)]
+// In the order of the paper's numbers: of form (1 to 6), Fill's (7, 8), First's and Next's (9), those of why-lists (10, 11).
+#[derive(Clone, Copy, Debug, PartialEq, Eq)]
 pub enum Refusal {
     BoxCount,
     MakerLength,
@@ -21,6 +23,11 @@ pub enum Refusal {
     GivenLength,
     OutLength,
     ListByte(usize),
+    Clash,
+    Broken(usize),
+    NoList,
+    LinesLength,
+    WrongLine(usize),
 }
 
 pub const DONE: u64 = 0;
@@ -29,7 +36,7 @@ pub const REFUSED: u64 = 1;
 
 pub const BROKEN: u64 = 2;
 
-#[derive(Clone, Copy)]
+#[derive(Clone, Copy, Debug, PartialEq, Eq)]
 pub struct Numbers {
     pub code: u64,
     pub first: u64,
@@ -59,26 +66,26 @@ pub fn refused(number: usize, place: usize) -> Numbers
     three(REFUSED, number, place)
 }
 
-// By itself, since of a bad record more may be told than of the others.
-fn bad_record(number: usize) -> Numbers
-    ensures { in_order result ≡ refused_numbers (reason 3 number) }
-{
-    refused(3, number)
-}
+impl From<Refusal> for Numbers {
+    ghost from_gives = { λ why n. in_order n ≡ refused_numbers (refusal_of why) };
 
-pub fn of_refusal(why: Refusal) -> Numbers
-    ensures { in_order result ≡ refused_numbers (refusal_of why) }
-{
-    match why {
-        Refusal::BoxCount => refused(1, 0),
-        Refusal::MakerLength => refused(2, 0),
-        Refusal::DepotLength => refused(2, 1),
-        Refusal::RecordCount => refused(2, 2),
-        Refusal::BadRecord(number) => bad_record(number),
-        Refusal::SheetByte(b) => refused(4, b),
-        Refusal::GivenLength => refused(5, 0),
-        Refusal::OutLength => refused(5, 1),
-        Refusal::ListByte(b) => refused(6, b),
+    fn from(why: Refusal) -> Numbers {
+        match why {
+            Refusal::BoxCount => refused(1, 0),
+            Refusal::MakerLength => refused(2, 0),
+            Refusal::DepotLength => refused(2, 1),
+            Refusal::RecordCount => refused(2, 2),
+            Refusal::BadRecord(number) => refused(3, number),
+            Refusal::SheetByte(b) => refused(4, b),
+            Refusal::GivenLength => refused(5, 0),
+            Refusal::OutLength => refused(5, 1),
+            Refusal::ListByte(b) => refused(6, b),
+            Refusal::Clash => refused(7, 0),
+            Refusal::Broken(number) => refused(8, number),
+            Refusal::NoList => refused(9, 0),
+            Refusal::LinesLength => refused(10, 0),
+            Refusal::WrongLine(k) => refused(11, k),
+        }
     }
 }
 

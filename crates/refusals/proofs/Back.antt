@@ -1,0 +1,71 @@
+-- A refusal, and an operation's answer, had back from what is said of it; so two answers that a promise allows are equal.
+-- Assumes nothing.
+use mathlib.Core.Path.{◌≡◌, refl, sym, ap, ◌∙◌}
+use mathlib.Core.List.{List, [], ◌∷◌}
+use Prim.Native.Nat.{ℕ}
+use lib.ListN.{get_or}
+use Rattle.std.specs.Prelude.{Result, Ok, Err}
+use Rattle.spec.specs.Refusals.{Refusal as Numbered, numbered, Said, refused, answered, Does}
+use Rattle.spec.proofs.Judge.{does_unique}
+use Rattle.refusals.specs.declared.Refusal.{Refusal}
+use Rattle.refusals.specs.declared.Refusal.TheVariants.{BoxCount, MakerLength, DepotLength, RecordCount, BadRecord, SheetByte, GivenLength}
+use Rattle.refusals.specs.declared.Refusal.TheVariants.{OutLength, ListByte, Clash, Broken, NoList, LinesLength, WrongLine}
+use Rattle.refusals.specs.Telling.{refusal_of, refused_numbers, numbers_from, refusal_in, said}
+
+-- any refusal is had back from its numbers
+pub numbers_back : (why : Numbered) → refusal_in (numbers_from (refused_numbers why)) ≡ why
+numbers_back (numbered number place) = refl
+
+-- the refusal that a number and a place stand for
+unfoldable pub refusal_for : Numbered → Refusal
+refusal_for (numbered number place) =
+    get_or
+    (BoxCount
+    ∷ BoxCount
+    ∷ get_or (MakerLength ∷ DepotLength ∷ RecordCount ∷ []) place BoxCount
+    ∷ BadRecord place
+    ∷ SheetByte place
+    ∷ get_or (GivenLength ∷ OutLength ∷ []) place BoxCount
+    ∷ ListByte place
+    ∷ Clash
+    ∷ Broken place
+    ∷ NoList
+    ∷ LinesLength
+    ∷ WrongLine place
+    ∷ [])
+    number
+    BoxCount
+
+pub refusal_back : (why : Refusal) → refusal_for (refusal_of why) ≡ why
+unfolding refusal_for
+refusal_back BoxCount = refl
+refusal_back MakerLength = refl
+refusal_back DepotLength = refl
+refusal_back RecordCount = refl
+refusal_back (BadRecord number) = refl
+refusal_back (SheetByte box) = refl
+refusal_back GivenLength = refl
+refusal_back OutLength = refl
+refusal_back (ListByte box) = refl
+refusal_back Clash = refl
+refusal_back (Broken number) = refl
+refusal_back NoList = refl
+refusal_back LinesLength = refl
+refusal_back (WrongLine line) = refl
+
+-- the answer that says it, where the operation's own kind of answer can be had back
+abbrev pub answer_for : {A B : Type 0} → (back : B → A) → Said B → Result A Refusal
+answer_for back (refused why) = Err (refusal_for why)
+answer_for back (answered answer) = Ok (back answer)
+
+-- two results that a promise allows are equal
+module _ {A B : Type 0} (own : A → B) (back : B → A) (had : (a : A) → back (own a) ≡ a) where
+  pub answer_back : (r : Result A Refusal) → answer_for back (said own r) ≡ r
+  answer_back (Ok a) = ap Ok (had a)
+  answer_back (Err why) = ap Err (refusal_back why)
+
+  pub answer_unique : {due : Said B} {bytes : List ℕ} (r s : Result A Refusal) {left last : List ℕ} →
+      Does due bytes (said own r) left → Does due bytes (said own s) last → (r ≡ s) × (left ≡ last)
+  answer_unique r s p q =
+      let same = does_unique p q in
+      (sym (answer_back r) ∙ ap (answer_for back) same.0 ∙ answer_back s, same.1)
