@@ -7,29 +7,28 @@ use mathlib.Core.List.{List}
 use Prim.Native.Nat.{ℕ}
 use native.Mathlib.Omega.{arith}
 use denote.Ref.{Bor}
-use Rattle.spec.specs.Refusals.{Said, refused, answered}
+use Rattle.std.specs.Prelude.{Result}
+use Rattle.spec.specs.Refusals.{Said}
 use Rattle.spec.specs.Fits.{Verdict, fits, broken, Part}
+use Rattle.refusals.specs.declared.Refusal.{Refusal}
 use Rattle.refusals.specs.Telling.{numbers_of}
-use Rattle.refusals.proofs.OfForm.{back_of, back_form}
+use Rattle.refusals.proofs.Back.{said_unique}
 use Rattle.refusals.proofs.Told.{OwnCodes, told_unique}
-use Rattle.fits.specs.declared.Tested.{Tested}
-use Rattle.fits.specs.declared.Tested.TheVariants.{Fits, Broken, Refused}
-use Rattle.fits.specs.Answer.{tested_says, verdict_numbers, Shows}
+use Rattle.fits.specs.declared.Verdict.{Verdict as Tested}
+use Rattle.fits.specs.declared.Verdict.TheVariants.{Fits, Broken}
+use Rattle.fits.specs.Answer.{verdict_of, tested_says, verdict_numbers, Shows}
 
--- the answer that says this: Test has no refusal of its own
-tested_for : Said Verdict → Tested
-tested_for (answered fits) = Fits
-tested_for (answered (broken number)) = Broken number
-tested_for (refused why) = back_of (λ number place. Fits) Refused why
+verdict_for : Verdict → Tested
+verdict_for fits = Fits
+verdict_for (broken number) = Broken number
 
-tested_back : (r : Tested) → tested_for (tested_says r) ≡ r
-unfolding tested_for
-tested_back Fits = refl
-tested_back (Broken number) = refl
-tested_back (Refused why) = back_form _ Refused why
+verdict_back : (v : Tested) → verdict_for (verdict_of v) ≡ v
+unfolding verdict_for
+verdict_back Fits = refl
+verdict_back (Broken number) = refl
 
-pub tested_unique : (r s : Tested) → tested_says r ≡ tested_says s → r ≡ s
-tested_unique r s e = sym (tested_back r) ∙ ap tested_for e ∙ tested_back s
+pub tested_unique : (r s : Result Tested Refusal) → tested_says r ≡ tested_says s → r ≡ s
+tested_unique = said_unique verdict_of verdict_for verdict_back
 
 pub verdict_codes : OwnCodes verdict_numbers
 verdict_codes fits e = omega arith
@@ -37,9 +36,9 @@ verdict_codes (broken number) e = omega arith
 
 verdict_apart : (a b : Verdict) → verdict_numbers a ≡ verdict_numbers b → a ≡ b
 verdict_apart fits fits e = refl
-verdict_apart fits (broken m) e = let z : ◌≡◌ {A = ℕ} 0 2 = cc in absurd (omega arith)
-verdict_apart (broken n) fits e = let z : ◌≡◌ {A = ℕ} 0 2 = cc in absurd (omega arith)
-verdict_apart (broken n) (broken m) e = let same : n ≡ m = cc in ap broken same
+verdict_apart fits (broken m) e = cc
+verdict_apart (broken n) fits e = cc
+verdict_apart (broken n) (broken m) e = cc
 
 pub tested_told : (s t : Said Verdict) → numbers_of verdict_numbers s ≡ numbers_of verdict_numbers t → s ≡ t
 tested_told = told_unique verdict_numbers verdict_codes verdict_apart

@@ -1,17 +1,20 @@
 -- Test's answer: what every case of it says, and its numbers; and what it is to show a part of one of two lent tables.
 -- Assumes nothing.
-use Rattle.std.specs.Prelude.{◌≡◌, cond, List, ℕ, ◌+◌}
+use Rattle.std.specs.Prelude.{◌≡◌, cond, List, ℕ, ◌+◌, Result}
 use Rattle.std.specs.Borrow.{Bor}
-use Rattle.spec.specs.Refusals.{Said, refused, answered}
+use Rattle.spec.specs.Refusals.{Said}
 use Rattle.spec.specs.Fits.{Verdict, fits, broken, Part, bytes_of}
-use Rattle.refusals.specs.Telling.{refusal_of, done_with, broken_at}
-use Rattle.fits.specs.declared.Tested.{Tested}
-use Rattle.fits.specs.declared.Tested.TheVariants.{Fits, Broken, Refused}
+use Rattle.refusals.specs.declared.Refusal.{Refusal}
+use Rattle.refusals.specs.Telling.{said, done_with, broken_at}
+use Rattle.fits.specs.declared.Verdict.{Verdict as Tested}
+use Rattle.fits.specs.declared.Verdict.TheVariants.{Fits, Broken}
 
-abbrev pub tested_says : Tested → Said Verdict
-tested_says Fits = answered fits
-tested_says (Broken number) = answered (broken number)
-tested_says (Refused why) = refused (refusal_of why)
+abbrev pub verdict_of : Tested → Verdict
+verdict_of Fits = fits
+verdict_of (Broken number) = broken number
+
+abbrev pub tested_says : Result Tested Refusal → Said Verdict
+tested_says answer = said verdict_of answer
 
 abbrev pub verdict_numbers : Verdict → List ℕ
 verdict_numbers fits = done_with 0

@@ -2,63 +2,60 @@
 #![tactic(auto)]
 
 ghost use Rattle.std.specs.Prelude.{◌≡◌};
+ghost use Rattle.spec.specs.Refusals.{answered};
 ghost use Rattle.spec.specs.Fits.{test_judges, test_says, part_for, shows_part};
 ghost use Rattle.spec.proofs.Accepted.{Accepted};
 ghost use Rattle.refusals.specs.Telling.{numbers_of, in_order};
-ghost use Rattle.fits.specs.Answer.{tested_says, verdict_numbers, Shows};
+ghost use Rattle.fits.specs.Answer.{verdict_of, tested_says, verdict_numbers, Shows};
 
-use accept::{Form, check_test};
+use accept::check_test;
 use broken::first_broken;
 use records::{count, place_of};
-use refusals::{BROKEN, Numbers, Refusal, done, of_refusal, three};
+use refusals::{BROKEN, Numbers, Refusal, done, three};
 use tables::Tables;
 
-#[derive(Clone, Copy)]
-pub enum Tested {
+#[derive(Clone, Copy, Debug, PartialEq, Eq)]
+pub enum Verdict {
     Fits,
     Broken(usize),
-    Refused(Refusal),
 }
 
-pub fn numbers(answer: Tested) -> Numbers
+pub fn numbers(answer: Result<Verdict, Refusal>) -> Numbers
     ensures { in_order result ≡ numbers_of verdict_numbers (tested_says answer) }
 {
     match answer {
-        Tested::Fits => done(0),
-        Tested::Broken(number) => three(BROKEN, number, 0),
-        Tested::Refused(why) => of_refusal(why),
+        Ok(Verdict::Fits) => done(0),
+        Ok(Verdict::Broken(number)) => three(BROKEN, number, 0),
+        Err(why) => why.into(),
     }
 }
 
 // What Test has left to say once the checks have passed.
-fn test_accepted<'a>(maker: &'a [u8], depot: &'a [u8], n: usize, list: &[u8]) -> Tested
+fn test_accepted<'a>(maker: &'a [u8], depot: &'a [u8], n: usize, list: &[u8]) -> Verdict
     requires { Accepted n maker.now depot.now }
-    ensures { tested_says result ≡ test_judges maker.now depot.now list.now }
+    ensures { answered (verdict_of result) ≡ test_judges maker.now depot.now list.now }
 {
     let i = first_broken(maker, depot, list);
     if i < count(maker, depot) {
-        return Tested::Broken(i);
+        return Verdict::Broken(i);
     }
-    Tested::Fits
+    Verdict::Fits
 }
 
 // The accepted tables and the number of boxes, put together: the rest of the operation is given their parts.
-fn test_carried<'a>(maker: &'a [u8], depot: &'a [u8], n: usize, list: &[u8]) -> Tested
+fn test_carried<'a>(maker: &'a [u8], depot: &'a [u8], n: usize, list: &[u8]) -> Verdict
     requires { Accepted n maker.now depot.now }
-    ensures { tested_says result ≡ test_judges maker.now depot.now list.now }
+    ensures { answered (verdict_of result) ≡ test_judges maker.now depot.now list.now }
 {
     let t = Tables { maker, depot, n };
     test_accepted(t.maker, t.depot, t.n, list)
 }
 
-pub fn test<'a>(maker: &'a [u8], depot: &'a [u8], list: &[u8]) -> Tested
+pub fn test<'a>(maker: &'a [u8], depot: &'a [u8], list: &[u8]) -> Result<Verdict, Refusal>
     ensures { tested_says result ≡ test_says maker.now depot.now list.now }
 {
-    let form = check_test(maker, depot, list);
-    if let Form::Refused(why) = form {
-        return Tested::Refused(why);
-    }
-    test_carried(maker, depot, list.len(), list)
+    check_test(maker, depot, list)?;
+    Ok(test_carried(maker, depot, list.len(), list))
 }
 
 // What Show has left to show once the checks have passed. The empty part at the start of the maker's table stands for every answer of
@@ -92,9 +89,8 @@ fn show_carried<'a>(maker: &'a [u8], depot: &'a [u8], n: usize, list: &[u8]) -> 
 pub fn show<'a>(maker: &'a [u8], depot: &'a [u8], list: &[u8]) -> &'a [u8]
     ensures { Shows maker.entry depot.entry (shows_part maker.now depot.now list.now) result }
 {
-    let form = check_test(maker, depot, list);
-    if let Form::Refused(_) = form {
+    let Ok(()) = check_test(maker, depot, list) else {
         return &maker[0..0];
-    }
+    };
     show_carried(maker, depot, list.len(), list)
 }

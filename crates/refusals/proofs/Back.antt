@@ -58,14 +58,17 @@ abbrev pub answer_for : {A B : Type 0} → (back : B → A) → Said B → Resul
 answer_for back (refused why) = Err (refusal_for why)
 answer_for back (answered answer) = Ok (back answer)
 
--- two results that a promise allows are equal
+-- two answers that say the same are equal, and two results that a promise allows
 module _ {A B : Type 0} (own : A → B) (back : B → A) (had : (a : A) → back (own a) ≡ a) where
-  pub answer_back : (r : Result A Refusal) → answer_for back (said own r) ≡ r
+  answer_back : (r : Result A Refusal) → answer_for back (said own r) ≡ r
   answer_back (Ok a) = ap Ok (had a)
   answer_back (Err why) = ap Err (refusal_back why)
+
+  pub said_unique : (r s : Result A Refusal) → said own r ≡ said own s → r ≡ s
+  said_unique r s e = sym (answer_back r) ∙ ap (answer_for back) e ∙ answer_back s
 
   pub answer_unique : {due : Said B} {bytes : List ℕ} (r s : Result A Refusal) {left last : List ℕ} →
       Does due bytes (said own r) left → Does due bytes (said own s) last → (r ≡ s) × (left ≡ last)
   answer_unique r s p q =
       let same = does_unique p q in
-      (sym (answer_back r) ∙ ap (answer_for back) same.0 ∙ answer_back s, same.1)
+      (said_unique r s same.0, same.1)

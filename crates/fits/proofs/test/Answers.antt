@@ -1,26 +1,18 @@
 -- `fits::test` meets its contract: the checks come first, and then the first broken record.
 -- Assumes nothing.
-use mathlib.Core.Path.{◌≡◌, sym, ◌∙◌}
-use Rattle.spec.specs.Refusals.{passed, judge}
-use Rattle.spec.specs.Fits.{test_checks}
+use mathlib.Core.Path.{sym, ◌∙◌}
+use Rattle.std.proofs.lemmas.Result.{err_from_is_err_and}
 use Rattle.spec.proofs.Accepted.{test_accepted}
 use Rattle.fits.proofs.Says.{test_refused, test_passed}
 use Rattle.fits.proofs.test.Goals as goal
 
-pub returns-in-Refused : goal.returns-in-Refused
-returns-in-Refused c =
-    let a = c.args in
-    test_refused a.maker.now a.depot.now a.list.now
-    c.in-Refused.ensures
+pub returns-in_err-check_test : goal.returns-in_err-check_test
+returns-in_err-check_test c =
+    let p = err_from_is_err_and c.from_residual.result c.from_residual.ensures.1 in
+    rw (p.1, p.2) (test_refused _ _ _ c.in_err-check_test.ensures)
 
 pub test_carried-requires : goal.test_carried-requires
-test_carried-requires c = test_accepted _ _ c.args.list.now ((let h : judge
-    (test_checks c.args.maker.now c.args.depot.now
-    c.args.list.now) passed ≡ passed =
-    sym c.in_default.ensures in h))
+test_carried-requires c = test_accepted _ _ c.args.list.now (sym c.in_ok-check_test.ensures)
 
 pub returns : goal.returns
-returns c = c.test_carried.ensures ∙ test_passed _ _ _ ((let h : judge
-    (test_checks c.args.maker.now c.args.depot.now
-    c.args.list.now) passed ≡ passed =
-    sym c.in_default.ensures in h))
+returns c = c.test_carried.ensures ∙ test_passed _ _ _ (sym c.in_ok-check_test.ensures)
