@@ -4,13 +4,12 @@
 ghost use Rattle.std.specs.Prelude.{◌≡◌};
 ghost use Rattle.spec.specs.Refusals.{answered};
 ghost use Rattle.spec.specs.Fits.{test_judges, test_says, part_for, shows_part};
-ghost use Rattle.spec.proofs.Accepted.{Accepted};
 ghost use Rattle.refusals.specs.Telling.{numbers_of, in_order};
 ghost use Rattle.fits.specs.Answer.{verdict_of, tested_says, verdict_numbers, Shows};
 
 use accept::check_test;
 use broken::first_broken;
-use records::{count, place_of};
+use records::place_of;
 use refusals::{BROKEN, Numbers, Refusal, done, three};
 use tables::Tables;
 
@@ -31,59 +30,40 @@ pub fn numbers(answer: Result<Verdict, Refusal>) -> Numbers
 }
 
 // What Test has left to say once the checks have passed.
-fn test_accepted<'a>(maker: &'a [u8], depot: &'a [u8], n: usize, list: &[u8]) -> Verdict
-    requires { Accepted n maker.now depot.now }
-    ensures { answered (verdict_of result) ≡ test_judges maker.now depot.now list.now }
+fn test_accepted(t: Tables, list: &[u8]) -> Verdict
+    ensures { answered (verdict_of result) ≡ test_judges t.entry.maker.now t.entry.depot.now list.now }
 {
-    let i = first_broken(maker, depot, list);
-    if i < count(maker, depot) {
+    let i = first_broken(t.maker, t.depot, list);
+    if i < t.records() {
         return Verdict::Broken(i);
     }
     Verdict::Fits
-}
-
-// The accepted tables and the number of boxes, put together: the rest of the operation is given their parts.
-fn test_carried<'a>(maker: &'a [u8], depot: &'a [u8], n: usize, list: &[u8]) -> Verdict
-    requires { Accepted n maker.now depot.now }
-    ensures { answered (verdict_of result) ≡ test_judges maker.now depot.now list.now }
-{
-    let t = Tables { maker, depot, n };
-    test_accepted(t.maker, t.depot, t.n, list)
 }
 
 pub fn test<'a>(maker: &'a [u8], depot: &'a [u8], list: &[u8]) -> Result<Verdict, Refusal>
     ensures { tested_says result ≡ test_says maker.now depot.now list.now }
 {
     check_test(maker, depot, list)?;
-    Ok(test_carried(maker, depot, list.len(), list))
+    let n = list.len();
+    Ok(test_accepted(Tables { maker, depot, n }, list))
 }
 
 // What Show has left to show once the checks have passed. The empty part at the start of the maker's table stands for every answer of
 // Test that names no record.
-fn show_accepted<'a>(maker: &'a [u8], depot: &'a [u8], n: usize, list: &[u8]) -> &'a [u8]
-    requires { Accepted n maker.now depot.now }
-    ensures { Shows maker.entry depot.entry (part_for maker.now (test_judges maker.now depot.now list.now)) result }
+fn show_accepted<'a>(t: Tables<'a>, list: &[u8]) -> &'a [u8]
+    ensures { Shows t.entry.maker t.entry.depot (part_for t.entry.maker.now (test_judges t.entry.maker.now t.entry.depot.now list.now)) result }
 {
-    let i = first_broken(maker, depot, list);
-    if i < count(maker, depot) {
-        let place = place_of(maker, i);
+    let i = first_broken(t.maker, t.depot, list);
+    if i < t.records() {
+        let place = place_of(t.maker, i);
         let start = place.start;
         let end = start + 8;
         if place.depots {
-            return &depot[start..end];
+            return &t.depot[start..end];
         }
-        return &maker[start..end];
+        return &t.maker[start..end];
     }
-    &maker[0..0]
-}
-
-// As for Test.
-fn show_carried<'a>(maker: &'a [u8], depot: &'a [u8], n: usize, list: &[u8]) -> &'a [u8]
-    requires { Accepted n maker.now depot.now }
-    ensures { Shows maker.entry depot.entry (part_for maker.now (test_judges maker.now depot.now list.now)) result }
-{
-    let t = Tables { maker, depot, n };
-    show_accepted(t.maker, t.depot, t.n, list)
+    &t.maker[0..0]
 }
 
 pub fn show<'a>(maker: &'a [u8], depot: &'a [u8], list: &[u8]) -> &'a [u8]
@@ -92,5 +72,6 @@ pub fn show<'a>(maker: &'a [u8], depot: &'a [u8], list: &[u8]) -> &'a [u8]
     let Ok(()) = check_test(maker, depot, list) else {
         return &maker[0..0];
     };
-    show_carried(maker, depot, list.len(), list)
+    let n = list.len();
+    show_accepted(Tables { maker, depot, n }, list)
 }

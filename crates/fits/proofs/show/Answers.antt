@@ -11,8 +11,8 @@ unfolding bytes_of
 returns-in_default c =
     shows_as (show_refused _ _ c.args.list.now c.in_default.ensures) (record { table = refl; offset = refl; bytes = refl })
 
-pub show_carried-requires : goal.show_carried-requires
-show_carried-requires c = test_accepted _ _ c.args.list.now (sym c.in-Ok.ensures)
+pub invariant_of-show_accepted : goal.invariant_of-show_accepted
+invariant_of-show_accepted c = record { accepted = test_accepted _ _ c.args.list.now (sym c.in-Ok.ensures) }
 
 pub returns : goal.returns
-returns c = shows_as (sym (show_passed _ _ c.args.list.now (sym c.in-Ok.ensures))) c.show_carried.ensures
+returns c = shows_as (sym (show_passed _ _ c.args.list.now (sym c.in-Ok.ensures))) c.show_accepted.ensures

@@ -28,31 +28,22 @@ lies : {maker depot : List ℕ} {number : ℕ} → WholeRecords maker depot → 
     part_of w ≡ record_part maker number → LiesIn maker depot number (part_of w)
 lies {maker} {depot} {number} whole below e = subst⁻¹ (LiesIn maker depot number) e (record_lies maker depot whole number below)
 
-pub first_broken-i-requires : goal.first_broken-i-requires
-first_broken-i-requires c = c.requires.whole
-
-pub place_of-place-requires : goal.place_of-place-requires
-place_of-place-requires c =
-    let found : c.first_broken-i.result < record_count c.args.maker.now c.args.depot.now = omega arith in
-    let below = record_below c.args.maker.now c.args.depot.now c.requires.whole c.first_broken-i.result found in
-    omega arith
-
 pub overflow_add-end : goal.overflow_add-end
 overflow_add-end c =
-    let found : c.first_broken-i.result < record_count c.args.maker.now c.args.depot.now = omega arith in
-    let small = part_start c.args.maker.now c.first_broken-i.result in
-    omega (arith, ap (λ (p : Part). p.start) c.place_of-place.ensures, c.requires.count)
+    let found : c.first_broken-i.result < record_count c.args.t.maker.now c.args.t.depot.now = omega arith in
+    let small = part_start c.args.t.maker.now c.first_broken-i.result in
+    omega (arith, ap (λ (p : Part). p.start) c.place_of-place.ensures, c.args.t.accepted.count)
 
 pub slice_bounds-result-end : goal.slice_bounds-result-end
 slice_bounds-result-end c =
-    let found : c.first_broken-i.result < record_count c.args.maker.now c.args.depot.now = omega arith in
-    let within = rw c.if-place.true at (lies c.requires.whole found c.place_of-place.ensures).within in
+    let found : c.first_broken-i.result < record_count c.args.t.maker.now c.args.t.depot.now = omega arith in
+    let within = rw c.if-place.true at (lies c.args.t.accepted.whole found c.place_of-place.ensures).within in
     omega arith
 
-pub slice_bounds-result-end-then-i-count : goal.slice_bounds-result-end-then-i-count
-slice_bounds-result-end-then-i-count c =
-    let found : c.first_broken-i.result < record_count c.args.maker.now c.args.depot.now = omega arith in
-    let within = rw c.if-place.false at (lies c.requires.whole found c.place_of-place.ensures).within in
+pub slice_bounds-result-end-then-i-records : goal.slice_bounds-result-end-then-i-records
+slice_bounds-result-end-then-i-records c =
+    let found : c.first_broken-i.result < record_count c.args.t.maker.now c.args.t.depot.now = omega arith in
+    let within = rw c.if-place.false at (lies c.args.t.accepted.whole found c.place_of-place.ensures).within in
     omega arith
 
 pub returns-then-place : goal.returns-then-place
@@ -60,17 +51,17 @@ unfolding bytes_of
 returns-then-place c =
     let said = judged_broken _ _ _ _ c.first_broken-i.ensures (omega arith) in
     shows_as (sym (ap (part_for _) said) ∙ sym c.place_of-place.ensures ∙ part_at c.place_of-place.result c.if-place.true)
-    (record { table = refl; offset = refl; bytes = eight_bytes_lem c.args.depot.now c.place_of-place.result.start })
+    (record { table = refl; offset = refl; bytes = eight_bytes_lem c.args.t.depot.now c.place_of-place.result.start })
 
-pub returns-then-i-count : goal.returns-then-i-count
+pub returns-then-i-records : goal.returns-then-i-records
 unfolding bytes_of
-returns-then-i-count c =
+returns-then-i-records c =
     let said = judged_broken _ _ _ _ c.first_broken-i.ensures (omega arith) in
     shows_as (sym (ap (part_for _) said) ∙ sym c.place_of-place.ensures ∙ part_at c.place_of-place.result c.if-place.false)
-    (record { table = refl; offset = refl; bytes = eight_bytes_lem c.args.maker.now c.place_of-place.result.start })
+    (record { table = refl; offset = refl; bytes = eight_bytes_lem c.args.t.maker.now c.place_of-place.result.start })
 
 pub returns : goal.returns
 unfolding bytes_of
 returns c =
-    let said = judged_fits _ _ _ _ c.first_broken-i.ensures (omega (arith, c.count.ensures)) in
+    let said = judged_fits _ _ _ _ c.first_broken-i.ensures (omega arith) in
     shows_as (sym (ap (part_for _) said)) (record { table = refl; offset = refl; bytes = refl })
