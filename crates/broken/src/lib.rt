@@ -3,6 +3,8 @@
 
 ghost use Rattle.std.specs.Prelude.{◌≡◌};
 ghost use Rattle.spec.specs.Kinds.{kind_of, meaning};
+ghost use Rattle.lemmas.specs.Lowest.{if_below};
+ghost use Rattle.spec.specs.Records.{record_count};
 ghost use Rattle.spec.specs.Fits.{is_in, is_broken, first_broken};
 ghost use Rattle.spec.proofs.Accepted.{WholeRecords};
 ghost use Rattle.records.specs.Record.{as_rec};
@@ -42,17 +44,15 @@ fn is_broken(list: &[u8], q: Record) -> bool
     is_rule(q) && !truth(q.kind, is_in(list, q.x), is_in(list, q.y), is_in(list, q.z))
 }
 
-// The lowest broken record, or the number of records where none is broken.
-#[tactic(auto, using(lemmas::proofs::Lowest::lowest_none), unfolding(spec::specs::Fits::first_broken))]
-pub fn first_broken<'a>(maker: &'a [u8], depot: &'a [u8], list: &[u8]) -> usize
+// The lowest broken record.
+pub fn first_broken<'a>(maker: &'a [u8], depot: &'a [u8], list: &[u8]) -> Option<usize>
     requires { WholeRecords maker.now depot.now }
-    ensures { result ≡ first_broken maker.now depot.now list.now }
+    ensures { result ≡ if_below (first_broken maker.now depot.now list.now) (record_count maker.now depot.now) }
 {
-    let all = count(maker, depot);
-    for i in 0..all {
+    for i in 0..count(maker, depot) {
         if is_broken(list, record_at(maker, depot, i)) {
-            return i;
+            return Some(i);
         }
     }
-    all
+    None
 }

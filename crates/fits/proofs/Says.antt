@@ -3,9 +3,12 @@
 use mathlib.Core.Path.{◌≡◌, sym, ap}
 use mathlib.Core.Bool.{false}
 use mathlib.Core.List.{List}
-use Prim.Native.Nat.{ℕ, ◌≤◌, ◌<◌}
+use Prim.Native.Nat.{ℕ}
 use borrow.Author.Tests.{lt-ltb, le-ltb}
 use denote.Ref.{Bor}
+use Rattle.std.proofs.Common.{Some, None}
+use Rattle.lemmas.specs.Lowest.{if_below}
+use Rattle.lemmas.proofs.Lowest.{some_below, none_below}
 use Rattle.spec.specs.Records.{record_count}
 use Rattle.spec.specs.Refusals.{Refusal, refused, answered, passed, judge}
 use Rattle.spec.specs.Fits.{fits, broken, first_broken, test_checks, test_judges, test_says, Part, part_for, shows_part}
@@ -32,14 +35,16 @@ module _ (maker depot l : List ℕ) where
   show_passed e = ap (part_for maker) (test_passed e)
 
   -- what is said once the first broken record is looked for
-  module _ (i : ℕ) (found : i ≡ first_broken maker depot l) where
-    pub judged_broken : i < record_count maker depot → answered (broken i) ≡ test_judges maker depot l
-    unfolding test_judges
-    judged_broken h = simp (← found, lt-ltb _ _ h)
+  pub judged_broken : {i : ℕ} → Some i ≡ if_below (first_broken maker depot l) (record_count maker depot) →
+      answered (broken i) ≡ test_judges maker depot l
+  unfolding test_judges
+  judged_broken e =
+      let found = some_below (first_broken maker depot l) (record_count maker depot) e in
+      simp (found.0, lt-ltb _ _ found.1)
 
-    pub judged_fits : record_count maker depot ≤ i → answered fits ≡ test_judges maker depot l
-    unfolding test_judges
-    judged_fits h = simp (← found, le-ltb _ _ h)
+  pub judged_fits : None ≡ if_below (first_broken maker depot l) (record_count maker depot) → answered fits ≡ test_judges maker depot l
+  unfolding test_judges
+  judged_fits e = simp (le-ltb _ _ (none_below (first_broken maker depot l) (record_count maker depot) e))
 
 pub shows_as : {maker depot r : Bor (List ℕ)} {part other : Part} → part ≡ other → Shows maker depot other r → Shows maker depot part r
 shows_as e shown = rw e shown

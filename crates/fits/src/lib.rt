@@ -9,7 +9,7 @@ ghost use Rattle.fits.specs.Answer.{verdict_of, tested_says, verdict_numbers, Sh
 
 use accept::check_test;
 use broken::first_broken;
-use records::place_of;
+use records::{Where, place_of};
 use refusals::{BROKEN, Numbers, Refusal, done, three};
 use tables::Tables;
 
@@ -33,11 +33,10 @@ pub fn numbers(answer: Result<Verdict, Refusal>) -> Numbers
 fn test_accepted(t: Tables, list: &[u8]) -> Verdict
     ensures { answered (verdict_of result) ≡ test_judges t.entry.maker.now t.entry.depot.now list.now }
 {
-    let i = first_broken(t.maker, t.depot, list);
-    if i < t.records() {
-        return Verdict::Broken(i);
+    match first_broken(t.maker, t.depot, list) {
+        Some(i) => Verdict::Broken(i),
+        None => Verdict::Fits,
     }
-    Verdict::Fits
 }
 
 pub fn test<'a>(maker: &'a [u8], depot: &'a [u8], list: &[u8]) -> Result<Verdict, Refusal>
@@ -53,17 +52,13 @@ pub fn test<'a>(maker: &'a [u8], depot: &'a [u8], list: &[u8]) -> Result<Verdict
 fn show_accepted<'a>(t: Tables<'a>, list: &[u8]) -> &'a [u8]
     ensures { Shows t.entry.maker t.entry.depot (part_for t.entry.maker.now (test_judges t.entry.maker.now t.entry.depot.now list.now)) result }
 {
-    let i = first_broken(t.maker, t.depot, list);
-    if i < t.records() {
-        let place = place_of(t.maker, i);
-        let start = place.start;
-        let end = start + 8;
-        if place.depots {
-            return &t.depot[start..end];
-        }
-        return &t.maker[start..end];
+    let Some(i) = first_broken(t.maker, t.depot, list) else {
+        return &t.maker[0..0];
+    };
+    match place_of(t.maker, i) {
+        Where::Maker(start) => &t.maker[start..start + 8],
+        Where::Depot(start) => &t.depot[start..start + 8],
     }
-    &t.maker[0..0]
 }
 
 pub fn show<'a>(maker: &'a [u8], depot: &'a [u8], list: &[u8]) -> &'a [u8]

@@ -6,7 +6,8 @@ use Prim.Native.Nat.{ℕ, zero, suc, ◌+◌, ◌≤◌, ◌<◌, zero-le, suc-l
 use native.Mathlib.Nat.{not-suc-le-zero, le_of_suc-le-suc}
 use native.Mathlib.Omega.{arith}
 use borrow.Author.Count.{below_none, below_more}
-use Rattle.lemmas.specs.Lowest.{lowest}
+use Rattle.std.proofs.Common.{Some, None}
+use Rattle.lemmas.specs.Lowest.{lowest, if_below}
 
 -- none passes
 pub lowest_none : (p : ℕ → Bool) (n : ℕ) → ((j : ℕ) → j < n → p j ≡ false) → lowest p n ≡ n
@@ -21,6 +22,20 @@ lowest_at p zero i l t h = absurd (not-suc-le-zero l)
 lowest_at p (suc n) zero l t h = rw (t, lowest)
 lowest_at p (suc n) (suc i) l t h =
     rw (h zero (omega arith), lowest) (ap suc (lowest_at (λ j. p (suc j)) n i (le_of_suc-le-suc l) t (λ j m. h (suc j) (suc-le-suc m))))
+
+-- the same as an option
+pub if_none : (p : ℕ → Bool) (n : ℕ) → ((j : ℕ) → j < n → p j ≡ false) → None ≡ if_below (lowest p n) n
+if_none p n h = let e = lowest_none p n h in grind arith
+
+pub if_found : (p : ℕ → Bool) (n i : ℕ) → i < n → p i ≡ true → ((j : ℕ) → j < i → p j ≡ false) → Some i ≡ if_below (lowest p n) n
+if_found p n i l t h = let e = lowest_at p n i l t h in grind arith
+
+-- and what an option says of the number
+pub some_below : (k n : ℕ) {i : ℕ} → Some i ≡ if_below k n → (i ≡ k) × (k < n)
+some_below k n e = (grind arith, grind arith)
+
+pub none_below : (k n : ℕ) → None ≡ if_below k n → n ≤ k
+none_below k n e = grind arith
 
 -- where `lowest` finds none, none passes
 pub lowest_below : (p : ℕ → Bool) (n i : ℕ) → n ≤ lowest p n → i < n → p i ≡ false

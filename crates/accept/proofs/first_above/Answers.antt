@@ -3,11 +3,12 @@
 use Rattle.std.proofs.Common.{rules, tests, ltb}
 use Rattle.std.proofs.lemmas.Iterator.{YieldsList-from_slice}
 use Rattle.std.proofs.lemmas.Iterator.Search.{position_from_yields_List}
-use Rattle.accept.proofs.Search.{none_found, position_lowest}
+use Rattle.lemmas.proofs.Lowest.{if_none}
+use Rattle.accept.proofs.Search.{position_lowest}
 use Rattle.accept.proofs.first_above.Goals as goal
 
 pub returns-then-not-is_any_above : goal.returns-then-not-is_any_above
-returns-then-not-is_any_above c = none_found _ _ (c.is_any_above.ensures c.if-not-is_any_above.true)
+returns-then-not-is_any_above c = if_none _ _ (c.is_any_above.ensures c.if-not-is_any_above.true)
 
 pub returns : goal.returns
 returns c =

@@ -1,11 +1,10 @@
 -- `fits::test_accepted` meets its contract: the first broken record is named, if there is one.
 -- Assumes nothing.
-use native.Mathlib.Omega.{arith}
 use Rattle.fits.proofs.Says.{judged_broken, judged_fits}
 use Rattle.fits.proofs.test_accepted.Goals as goal
 
-pub returns-then-i-records : goal.returns-then-i-records
-returns-then-i-records c = judged_broken _ _ _ _ c.first_broken-i.ensures (omega arith)
+pub returns-in-Some : goal.returns-in-Some
+returns-in-Some c = judged_broken _ _ _ c.in-Some.ensures
 
-pub returns : goal.returns
-returns c = judged_fits _ _ _ _ c.first_broken-i.ensures (omega arith)
+pub returns-in-None : goal.returns-in-None
+returns-in-None c = judged_fits _ _ _ c.in-None.ensures
