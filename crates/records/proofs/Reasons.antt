@@ -3,6 +3,7 @@
 use mathlib.Core.Path.{◌≡◌, refl}
 use mathlib.Core.Bool.{Bool, true, false, cond, not, ◌&&◌, ◌||◌}
 use Prim.Native.Nat.{ℕ}
+use native.Mathlib.Omega.{arith}
 use lib.Dec.{leb, eqb}
 use Rattle.std.specs.Prelude.{map}
 use Rattle.lemmas.specs.Lists.{any}
@@ -13,34 +14,11 @@ use Rattle.records.specs.declared.kinds.Kind.{Kind}
 use Rattle.records.specs.declared.kinds.Kind.TheVariants.{Equ, Not, And, Or}
 use Rattle.records.specs.Kinds.{as_kind}
 
--- kinds 1 and 2: byte 1; x, y not below n; z; x = y
-pair : (a b c d e : Bool) → (a || (b || (c || false)) || d || (e || false || false)) ≡ (a || (b || (c || (e || d))))
-pair true b c d e = refl
-pair false true c d e = refl
-pair false false true d e = refl
-pair false false false true true = refl
-pair false false false true false = refl
-pair false false false false true = refl
-pair false false false false false = refl
-
--- kinds 3 and 4: byte 1; x, y, z not below n; x = y, x = z, y = z
-triple : (a b c d e f g : Bool) →
-    (a || (b || (c || (d || false))) || false || (e || (f || false) || (g || false || false))) ≡ (a || (b || (c || (e || (d || (f || g))))))
-triple true b c d e f g = refl
-triple false true c d e f g = refl
-triple false false true d e f g = refl
-triple false false false true true f g = refl
-triple false false false true false f g = refl
-triple false false false false true f g = refl
-triple false false false false false true g = refl
-triple false false false false false false true = refl
-triple false false false false false false false = refl
-
 -- z is to be 65535 where the kind has none, and else a box like the others
 abbrev pub z_wrong : ℕ → Rec → Bool → Bool
 z_wrong n q missing = cond missing (not (eqb q.z 65535)) (leb n q.z || (eqb q.x q.z || eqb q.y q.z))
 
--- each kind that the code has is a kind of the paper
+-- each kind of the code is a kind
 pub is_real : (k : Kind) → no_kind (as_kind k) ≡ false
 unfolding no_kind
 is_real Equ = refl
@@ -60,17 +38,14 @@ pub reasons : (n : ℕ) (q : Rec) →
 unfolding bad no_kind lacks_z boxes_of box_at places_of two_equal
 reasons n q = at (kind_of q.kind)
   where
-    b : Bool
-    b = not (eqb q.byte1 0)
-
     at : (k : paper.Kind) →
-        (no_kind k || b || any (leb n) (map (box_at q) (places_of k)) || (lacks_z k && not (eqb q.z 65535))
+        (no_kind k || not (eqb q.byte1 0) || any (leb n) (map (box_at q) (places_of k)) || (lacks_z k && not (eqb q.z 65535))
         || two_equal (map (box_at q) (places_of k)))
-        ≡ (no_kind k || (b || (leb n q.x || (leb n q.y || (eqb q.x q.y || z_wrong n q (lacks_z k))))))
-    at EQU = pair b (leb n q.x) (leb n q.y) (not (eqb q.z 65535)) (eqb q.x q.y)
-    at NOT = pair b (leb n q.x) (leb n q.y) (not (eqb q.z 65535)) (eqb q.x q.y)
-    at AND = triple b (leb n q.x) (leb n q.y) (leb n q.z) (eqb q.x q.y) (eqb q.x q.z) (eqb q.y q.z)
-    at OR = triple b (leb n q.x) (leb n q.y) (leb n q.z) (eqb q.x q.y) (eqb q.x q.z) (eqb q.y q.z)
+        ≡ (no_kind k || (not (eqb q.byte1 0) || (leb n q.x || (leb n q.y || (eqb q.x q.y || z_wrong n q (lacks_z k))))))
+    at EQU = grind arith
+    at NOT = grind arith
+    at AND = grind arith
+    at OR = grind arith
     at other = refl
 
 pub ruleset why_bad = (reasons, is_real, is_none)
