@@ -4,6 +4,5 @@ pub mod Digits
 pub mod Decoding
 pub mod Pieces
 pub mod Taking
-pub mod Texts
 pub mod Looking
 pub mod Samples

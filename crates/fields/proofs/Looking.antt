@@ -1,45 +1,31 @@
--- A word looked for among others: those passed are others, and the rest are left.
+-- A word looked for among others, as the library finds it.
 -- Assumes nothing.
-use mathlib.Core.Path.{◌≡◌, sym, ◌∙◌, ap}
-use mathlib.Core.Bool.{Bool, true, false}
-use mathlib.Core.List.{List}
-use Prim.Native.Nat.{ℕ, ◌+◌, ◌-◌, ◌≤◌, ◌<◌}
-use native.Mathlib.Omega.{arith}
-use lib.Dec.{eqb}
-use lib.ListN.{length, take, drop}
+use mathlib.Core.Path.{◌≡◌, refl, ap}
+use mathlib.Core.Bool.{Bool, cond, ◌&&◌}
+use mathlib.Core.List.{List, [], ◌∷◌}
+use Prim.Native.Nat.{ℕ}
+use lib.Dec.{eqb, ltb}
+use lib.ListN.{length}
+use Rattle.std.proofs.Common.{Some, None}
+use Rattle.std.specs.Cmp.Lexicographic.{pointwise}
+use Rattle.std.specs.List.{position_or_len}
+use Rattle.std.proofs.lemmas.List.Recursion.{is_position_or_len}
 use Rattle.lemmas.specs.Same.{same_list}
-use Rattle.fields.specs.Cuts.{until, piece_from}
-use Rattle.fields.specs.Fields.{fields_of}
-use Rattle.fields.specs.Words.{place_among}
-use Rattle.fields.proofs.Splitting.{piece_part, split_more, split_last}
-use Rattle.fields.proofs.Pieces.{fields_next}
-use Rattle.fields.proofs.Texts.{same_flag}
+use Rattle.fields.specs.Words.{place_among, found_among}
+use Rattle.fields.proofs.Scanning.{one_more}
 
-pub record Looking (word words : List ℕ) (start k : ℕ) : Type 0 where
-  pub within : start ≤ length words
-  pub few : k ≤ start
-  pub whole : place_among word (fields_of words) ≡ k + place_among word (fields_of (drop start words))
+-- the library's comparison of two slices
+pub same_pointwise : (a b : List ℕ) → same_list eqb a b ≡ pointwise eqb a b
+same_pointwise [] [] = refl
+same_pointwise [] (y ∷ b) = refl
+same_pointwise (x ∷ a) [] = refl
+same_pointwise (x ∷ a) (y ∷ b) = ap (λ (r : Bool). eqb x y && r) (same_pointwise a b)
 
-pub looking_start : (word words : List ℕ) → Looking word words 0 0
-looking_start word words = record { within = omega arith; few = omega arith; whole = omega arith }
-
-module _ {word words : List ℕ} {start k : ℕ} (l : Looking word words start k) (end : ℕ) (stop : end ≡ start + until 32 (drop start words)) {r : Bool}
-    (same : (r ≡ true → word ≡ take (end - start) (drop start words)) × (word ≡ take (end - start) (drop start words) → r ≡ true)) where
-  -- the word that stands there is this one, or not
-  compared : same_list eqb word (piece_from 32 words start) ≡ r
-  compared = ap (same_list eqb word) (sym (piece_part 32 words start end l.within stop)) ∙ same_flag same
-
-  pub looking_found : r ≡ true → k ≡ place_among word (fields_of words)
-  looking_found e = sym (l.whole ∙ rw (fields_next words start l.within end stop, compared ∙ e) (omega arith))
-
-  pub looking_none : r ≡ false → end ≡ length words → k + 1 ≡ place_among word (fields_of words)
-  looking_none e last =
-      sym (l.whole ∙ rw (split_last 32 words start end l.within stop last, compared ∙ e))
-
-  pub looking_next : r ≡ false → end < length words → Looking word words (end + 1) (k + 1)
-  looking_next e h =
-      record {
-        within = omega arith;
-        few = omega (arith, l.few);
-        whole = l.whole ∙ rw (split_more 32 words start end l.within stop h, compared ∙ e) (omega arith);
-      }
+pub found_position : (w : List ℕ) (ps : List (List ℕ)) →
+    found_among w ps
+    ≡ cond (ltb (position_or_len (pointwise eqb w) ps) (length ps)) (Some (position_or_len (pointwise eqb w) ps)) None
+found_position w ps = rw (place ps)
+  where
+    place : (ps : List (List ℕ)) → place_among w ps ≡ position_or_len (pointwise eqb w) ps
+    place = is_position_or_len (place_among w) (pointwise eqb w) refl
+        (λ p ps. rw (same_pointwise w p) (ap (cond (pointwise eqb w p) 0) (one_more (place_among w ps))))

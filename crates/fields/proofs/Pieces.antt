@@ -1,7 +1,7 @@
 -- The fields of a line from a place on, one after the other; and a part found again in the buffer that holds it.
 -- Assumes nothing.
 use mathlib.Core.Path.{◌≡◌, refl, sym, ◌∙◌, ap}
-use mathlib.Core.Bool.{false, cond}
+use mathlib.Core.Bool.{cond}
 use mathlib.Core.List.{List, [], ◌∷◌, ◌++◌, append_assoc}
 use Prim.Native.Nat.{ℕ, zero, suc, ◌+◌, ◌*◌, ◌-◌, ◌≤◌, ◌<◌}
 use native.Mathlib.Omega.{arith}
@@ -12,12 +12,10 @@ use lib.Dec.{leb}
 use lib.ListN.{length, get_or, take, drop, length-take, take-append-drop}
 use lib.Seq.{take_at, drop_at}
 use borrow.Author.Tests.{le-leb, lt-leb}
-use Rattle.lemmas.specs.Lists.{all}
 use Rattle.fields.specs.Cuts.{until}
-use Rattle.fields.specs.Fields.{fields_of, field_at, is_field, bytes_in}
+use Rattle.fields.specs.Fields.{fields_of, field_at, bytes_in}
 use Rattle.fields.specs.Ends.{part_in, EndsInOrder}
-use Rattle.fields.proofs.Scanning.{pieces_some}
-use Rattle.fields.proofs.Splitting.{end_below, split_more, split_last, first_piece}
+use Rattle.fields.proofs.Splitting.{end_below, split_more, split_last}
 
 -- the fields from a place on; behind the end of the line there are none
 abbrev pub fields_from : List ℕ → ℕ → List (List ℕ)
@@ -45,15 +43,6 @@ pub bytes_half : (f : List ℕ) → 2 * length (bytes_in f) ≤ length f
 bytes_half [] = omega arith
 bytes_half (a ∷ []) = omega arith
 bytes_half (a ∷ b ∷ f) = omega (arith, bytes_half f)
-
--- one wrong field is enough
-pub first_wrong : (line : List ℕ) (from : ℕ) → from ≤ length line → is_field (field_at line from) ≡ false →
-    all is_field (fields_of (drop from line)) ≡ false
-first_wrong line from within e = at (fields_of (drop from line)) (pieces_some 32 (drop from line)) (ap is_field (first_piece 32 line from within) ∙ e)
-  where
-    at : (fs : List (List ℕ)) → 0 < length fs → is_field (get_or fs 0 []) ≡ false → all is_field fs ≡ false
-    at [] h e = absurd (omega arith)
-    at (f ∷ fs) h e = rw e
 
 -- a part is found where it starts and ends, in a buffer whose first n bytes are known
 pub piece : (l p q r : List ℕ) (n from end : ℕ) → take n l ≡ p ++ (q ++ r) → from ≡ length p → end ≡ from + length q →

@@ -1,50 +1,41 @@
--- A scan over characters, one by one: what is left of the pieces at each place.
+-- The pieces between marks, as the library cuts a slice and finds a mark.
 -- Assumes nothing.
-use mathlib.Core.Path.{◌≡◌, refl}
-use mathlib.Core.Bool.{Bool, true, false}
+use mathlib.Core.Path.{◌≡◌, refl, ap, ◌∙◌}
+use mathlib.Core.Bool.{Bool, true, false, cond, ◌&&◌}
 use mathlib.Core.List.{List, [], ◌∷◌}
-use Prim.Native.Nat.{ℕ, suc, ◌+◌, ◌≤◌, ◌<◌}
+use Prim.Native.Nat.{ℕ, suc, ◌+◌, ◌-◌}
 use native.Mathlib.Omega.{arith}
-use native.Mathlib.Numerals.{add-one}
 use lib.Dec.{eqb}
-use lib.ListN.{length, get_or, drop, drop_of_length-le}
-use lib.Seq.{drop-cons}
-use borrow.Author.Tests.{eq-eqb, ne_eqb}
+use lib.ListN.{length, take, drop, length-drop}
+use lib.Seq.{take_all}
+use Rattle.std.specs.List.{slice_split, onto_first, position_or_len, list_all}
+use Rattle.std.proofs.lemmas.List.Recursion.{is_position_or_len}
+use Rattle.lemmas.specs.Lists.{all}
 use Rattle.fields.specs.Cuts.{in_front, cut_at, until}
 
--- there is always a piece
-pub pieces_some : (mark : ℕ) (l : List ℕ) → 0 < length (cut_at mark l)
-pieces_some mark [] = omega arith
-pieces_some mark (c ∷ l) = front_some (eqb c mark) (cut_at mark l)
+pub cut_split : (mark : ℕ) (l : List ℕ) → slice_split (λ c. eqb c mark) l ≡ cut_at mark l
+cut_split mark [] = refl
+cut_split mark (c ∷ l) =
+    ap (λ (ps : List (List ℕ)). cond (eqb c mark) ([] ∷ ps) (onto_first c ps)) (cut_split mark l)
+    ∙ at (eqb c mark) (cut_at mark l)
   where
-    front_some : (b : Bool) (ps : List (List ℕ)) → 0 < length (in_front b c ps)
-    front_some true ps = omega arith
-    front_some false [] = omega arith
-    front_some false (p ∷ ps) = omega arith
+    at : (b : Bool) (ps : List (List ℕ)) → cond b ([] ∷ ps) (onto_first c ps) ≡ in_front b c ps
+    at true ps = refl
+    at false [] = refl
+    at false (p ∷ ps) = refl
 
-front_other : (c : ℕ) (ps : List (List ℕ)) → 0 < length ps → length (in_front false c ps) ≡ length ps
-front_other c [] h = absurd (omega arith)
-front_other c (p ∷ ps) h = refl
+pub one_more : (n : ℕ) → suc n ≡ 1 + n
+one_more n = omega arith
 
--- from i on: the character at i, and those from i + 1 on
-pub next_character : (l : List ℕ) (i : ℕ) → i < length l → drop i l ≡ get_or l i 0 ∷ drop (i + 1) l
-next_character l i h = rw (add-one, drop-cons l i 0)
+pub until_position : (mark : ℕ) (l : List ℕ) → until mark l ≡ position_or_len (λ c. eqb c mark) l
+until_position mark =
+    is_position_or_len (until mark) (λ c. eqb c mark) refl (λ c l. ap (cond (eqb c mark) 0) (one_more (until mark l)))
 
-module _ (mark : ℕ) (l : List ℕ) (i : ℕ) where
-  pub pieces_mark : i < length l → get_or l i 0 ≡ mark → length (cut_at mark (drop i l)) ≡ suc (length (cut_at mark (drop (i + 1) l)))
-  pieces_mark h e = rw (next_character l i h, eq-eqb _ _ e)
+-- the rest of a slice from a place on, as slicing gives it
+pub rest_from : (l : List ℕ) (from : ℕ) → take (length l - from) (drop from l) ≡ drop from l
+rest_from l from = take_all (length l - from) (drop from l) (omega (arith, length-drop from l))
 
-  pub pieces_other : i < length l → (get_or l i 0 ≡ mark → ⊥) → length (cut_at mark (drop i l)) ≡ length (cut_at mark (drop (i + 1) l))
-  pieces_other h e = rw (next_character l i h, ne_eqb _ _ e) (front_other (get_or l i 0) (cut_at mark (drop (i + 1) l)) (pieces_some mark (drop (i + 1) l)))
-
-  pub pieces_end : length l ≤ i → length (cut_at mark (drop i l)) ≡ 1
-  pieces_end h = rw (drop_of_length-le l h)
-
-  pub until_mark : i < length l → get_or l i 0 ≡ mark → until mark (drop i l) ≡ 0
-  until_mark h e = rw (next_character l i h, eq-eqb _ _ e)
-
-  pub until_other : i < length l → (get_or l i 0 ≡ mark → ⊥) → until mark (drop i l) ≡ suc (until mark (drop (i + 1) l))
-  until_other h e = rw (next_character l i h, ne_eqb _ _ e)
-
-  pub until_end : length l ≤ i → until mark (drop i l) ≡ 0
-  until_end h = rw (drop_of_length-le l h)
+-- the library's test of all
+pub all_list : {A : Type 0} (p : A → Bool) (l : List A) → list_all p l ≡ all p l
+all_list p [] = refl
+all_list p (a ∷ l) = ap (λ (r : Bool). p a && r) (all_list p l)

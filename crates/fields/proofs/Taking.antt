@@ -222,7 +222,7 @@ module _ {line : List ℕ} {from : ℕ} (h : RightFields line from) {size : ℕ}
   end_suc k more =
       rw add-one (t.marks (suc k) (omega arith) ∙ end_next fs k ∙ ap (λ (n : ℕ). n + length (part fs k)) (sym (t.marks k (omega arith))))
 
-  pub taken_order : EndsInOrder bytes ends
+  taken_order : EndsInOrder bytes ends
   unfolding fs end_of
   taken_order =
       record {
@@ -234,7 +234,7 @@ module _ {line : List ℕ} {from : ℕ} (h : RightFields line from) {size : ℕ}
       fits : at ≤ length bytes
       fits = omega (arith, t.half, t.same)
 
-  pub taken_parts : PartsTaken line from bytes ends
+  taken_parts : PartsTaken line from bytes ends
   unfolding fs end_of
   taken_parts =
       record {
@@ -252,3 +252,8 @@ module _ {line : List ℕ} {from : ℕ} (h : RightFields line from) {size : ℕ}
           let none : get_or ends (k + 1) 0 - get_or ends k 0 ≡ 0 = omega arith in
           let missing : get_or (fields_of (drop from line)) k [] ≡ [] = get_or-eq_default (fields_of (drop from line)) [] (omega (arith, h.few)) in
           rw (none, missing)
+
+pub all_taken : {line : List ℕ} {from size : ℕ} {bytes ends : List ℕ} {start at k : ℕ} → RightFields line from →
+    Taking line (fields_of (drop from line)) size bytes ends start at k → length line ≤ 2 * size → 8 ≤ k →
+    PartsTaken line from bytes ends
+all_taken {k} h t room last = let eight : k ≡ 8 = omega (arith, t.most) in taken_parts h (rw eight at t) room

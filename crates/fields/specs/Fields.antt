@@ -1,6 +1,6 @@
 -- The fields of a line, and the bytes that a field gives. They compute.
 -- Assumes nothing.
-use Rattle.std.specs.Prelude.{Bool, not, ◌&&◌, ◌||◌, List, [], ◌∷◌, ℕ, ◌+◌, ◌*◌, ◌%◌, ltb, eqb, length, get_or}
+use Rattle.std.specs.Prelude.{Bool, cond, not, ◌&&◌, ◌||◌, List, [], ◌∷◌, ℕ, ◌+◌, ◌*◌, ◌%◌, Option, Some, None, ltb, eqb, length, get_or}
 use Prim.Native.String.{String}
 use Rattle.lemmas.specs.Lists.{all}
 use Rattle.lemmas.specs.Lowest.{lowest}
@@ -22,6 +22,10 @@ digit_of c = lowest (λ i. eqb c (get_or (ascii "0123456789abcdef") i 0)) 16
 
 unfoldable pub is_digit : ℕ → Bool
 is_digit c = ltb (digit_of c) 16
+
+-- the value of a digit, and none for any other character
+unfoldable pub digit_in : ℕ → Option ℕ
+digit_in c = cond (is_digit c) (Some (digit_of c)) None
 
 -- an even number of characters, and not none
 unfoldable pub paired_up : List ℕ → Bool

@@ -7,15 +7,7 @@ pub fn count_pieces(s: &[u8], mark: u8) -> usize
     requires { length s.now ≤ longest }
     ensures { result ≡ length (cut_at mark s.now) }
 {
-    let mut n = 1;
-    let mut i = 0;
-    while i < s.len() {
-        if s[i] == mark {
-            n += 1;
-        }
-        i += 1;
-    }
-    n
+    s.split(|c| *c == mark).count()
 }
 
 // Where the piece that starts at `from` ends: at the next mark, or at the end of all.
@@ -23,12 +15,8 @@ pub fn end_of(s: &[u8], from: usize, mark: u8) -> usize
     requires { from ≤ length s.now }
     ensures { result ≡ from + until mark (drop from s.now) }
 {
-    let mut i = from;
-    while i < s.len() {
-        if s[i] == mark {
-            return i;
-        }
-        i += 1;
+    match s[from..].iter().position(|c| *c == mark) {
+        Some(k) => from + k,
+        None => s.len(),
     }
-    i
 }

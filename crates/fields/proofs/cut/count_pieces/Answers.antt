@@ -1,20 +1,18 @@
--- `fields::cut::count_pieces` meets its contract: what is counted and what is left are all the fields.
+-- `fields::cut::count_pieces` meets its contract: the library cuts at the same marks.
 -- Assumes nothing.
-use native.Mathlib.Omega.{arith}
-use Rattle.fields.proofs.Scanning.{pieces_mark, pieces_other, pieces_end}
-use Rattle.fields.proofs.cut.count_pieces.Goals.{then-s-i, else-s-i}
+use mathlib.Core.Path.{◌∙◌, ap}
+use borrow.Author.Rules.{rules}
+use borrow.Author.Tests.{tests}
+use lib.Dec.{eqb}
+use lib.ListN.{length}
+use Rattle.std.proofs.lemmas.Iterator.Consumers.{count_from_yields_List}
+use Rattle.std.proofs.lemmas.Iterator.Splits.{YieldsList-from_slice_split}
+use Rattle.fields.proofs.Scanning.{cut_split}
 use Rattle.fields.proofs.cut.count_pieces.Goals as goal
 
-pub overflow_add-n : goal.overflow_add-n
-overflow_add-n c = record { fits = omega (arith, c.requires) }
-
-pub loop-i-preserved : goal.loop-i-preserved
-loop-i-preserved c =
-    let l = c.loop-i in
-    let line = c.args.s.now in
-    let mark = c.args.mark in
-    let inside = c.loop-i-test.true in
-    elim c.if-s-i.branch [ then-s-i w ↦ omega (arith, w.n-is, l.invariant, pieces_mark mark line l.i inside w.if-s-i.true) | else-s-i w ↦ omega (arith, w.n-is, l.invariant, pieces_other mark line l.i inside w.if-s-i.false) ]
-
 pub returns : goal.returns
-returns c = omega (arith, pieces_end c.args.mark c.args.s.now c.loop-i.i c.loop-i-test.false)
+returns c =
+    count_from_yields_List c.split.result c.count.result c.count.ensures.ran
+    (YieldsList-from_slice_split _ (λ x. eqb x c.args.mark) c.args.s.now c.split.ensures.rest
+    c.split.ensures.done c.split.ensures.closure (λ x b q k. search (rules, tests)))
+    ∙ ap length (cut_split c.args.mark c.args.s.now)

@@ -1,4 +1,3 @@
-use Prim.Native.Nat.{◌-◌}
 use lib.ListN.{length, drop}
 use Rattle.fields.specs.Fields.{fields_of}
 use Rattle.fields.proofs.Taking.{Taking}
@@ -7,6 +6,3 @@ use Rattle.fields.proofs.parts.take_parts.Given as goal
 abbrev pub invariant-loop-k : goal.invariant-loop-k
 invariant-loop-k l =
     Taking l.line (fields_of (drop l.from l.line)) (length l.initial.bytes) l.bytes l.ends l.start l.at l.k
-
-abbrev pub decreases-loop-k : goal.decreases-loop-k
-decreases-loop-k l = 8 - l.k
