@@ -1,27 +1,24 @@
--- Fill's answer: what every case of it says; and Fill's promise.
+-- Fill's answer: what it says; and Fill's promise.
 -- Assumes nothing.
-use Rattle.std.specs.Prelude.{◌≡◌, List, ℕ}
+use Rattle.std.specs.Prelude.{◌≡◌, List, ℕ, Result}
 use Rattle.spec.specs.Records.{rules_in}
 use Rattle.spec.specs.Facts as facts
-use Rattle.spec.specs.Refusals.{reason, Said, refused, answered, written, Does}
+use Rattle.spec.specs.Refusals.{Said, written, Does}
 use Rattle.spec.specs.Fill.{closure_of, fill_judges, fill_says, fill_writes}
-use Rattle.refusals.specs.Telling.{refusal_of}
-use Rattle.fill.specs.declared.Filled.{Filled}
-use Rattle.fill.specs.declared.Filled.TheVariants.{Boxes, Clash, Broken, Refused}
+use Rattle.refusals.specs.declared.Refusal.{Refusal}
+use Rattle.refusals.specs.Telling.{said}
 
-abbrev pub filled_says : Filled → Said ℕ
-filled_says (Boxes count) = answered count
-filled_says Clash = refused (reason 7 0)
-filled_says (Broken number) = refused (reason 8 number)
-filled_says (Refused why) = refused (refusal_of why)
+-- a count of boxes
+abbrev pub filled_says : Result ℕ Refusal → Said ℕ
+filled_says answer = said (λ count. count) answer
 
 -- the promise: the answer, and every byte of the out buffer
-abbrev pub FillDoes : (maker depot sheet out : List ℕ) → Filled → List ℕ → Type 0
+abbrev pub FillDoes : (maker depot sheet out : List ℕ) → Result ℕ Refusal → List ℕ → Type 0
 FillDoes maker depot sheet out answer left =
     Does (fill_says maker depot sheet out) (fill_writes maker depot sheet out) (filled_says answer) left
 
 -- the same of a call whose form has passed
-abbrev pub FillDoesInForm : (maker depot sheet out : List ℕ) → Filled → List ℕ → Type 0
+abbrev pub FillDoesInForm : (maker depot sheet out : List ℕ) → Result ℕ Refusal → List ℕ → Type 0
 FillDoesInForm maker depot sheet out answer left =
     Does (fill_judges maker depot sheet) (written (fill_judges maker depot sheet) (closure_of maker depot sheet) out) (filled_says answer) left
 
