@@ -5,7 +5,9 @@ use mathlib.Core.List.{List}
 use Prim.Native.Nat.{ℕ, ◌<◌}
 use native.Mathlib.Omega.{arith}
 use lib.ListN.{length, take}
-use Rattle.std.specs.Prelude.{Result, Ok, Err}
+use Rattle.std.specs.Prelude.{Result, Ok, Err, Some}
+use Rattle.lemmas.specs.Lowest.{if_below}
+use Rattle.lemmas.proofs.Lowest.{some_below}
 use Rattle.spec.specs.Refusals.{reason, Said, refused, answered, written}
 use Rattle.spec.specs.Records.{record_count, rules_in}
 use Rattle.spec.specs.Fits.{first_broken}
@@ -32,11 +34,12 @@ unfolding closure_of
 filled_size maker depot sheet filled is = ap length is.closure ∙ closed_length (rules_in maker depot) sheet
 
 module _ (maker depot sheet out filled : List ℕ) (is : FillsTo maker depot sheet filled) where
-  pub handed_broken : (i : ℕ) → i ≡ first_broken maker depot filled → open_count filled ≡ 0 → i < record_count maker depot →
+  pub handed_broken : {i : ℕ} → Some i ≡ if_below (first_broken maker depot filled) (record_count maker depot) → open_count filled ≡ 0 →
       FillDoesInForm maker depot sheet out (Err (Broken i)) out
-  handed_broken i found full below =
+  handed_broken {i} found full =
       let e = is.closure in
-      let place : i ≡ first_broken maker depot (closure_of maker depot sheet) = found ∙ ap (first_broken maker depot) e in
+      let (is_first, below) = some_below (first_broken maker depot filled) (record_count maker depot) found in
+      let place : i ≡ first_broken maker depot (closure_of maker depot sheet) = is_first ∙ ap (first_broken maker depot) e in
       does maker depot sheet out (Err (Broken i))
       (fill_broken maker depot sheet is.unclashed (ap open_count (sym e) ∙ full) (omega arith)
       ∙ ap (λ (r : ℕ). refused (reason 8 r)) (sym place))

@@ -31,8 +31,7 @@ fn hand_out(t: Tables, sheet: &[u8], filled: &[u8], out: &mut [u8]) -> Result<us
     ensures { FillDoesInForm t.entry.maker.now t.entry.depot.now sheet.now out.old result out.new }
 {
     if count_open(filled) == 0 {
-        let i = first_broken(t.maker, t.depot, filled);
-        if i < t.records() {
+        if let Some(i) = first_broken(t.maker, t.depot, filled) {
             return Err(Refusal::Broken(i));
         }
     }
@@ -48,9 +47,9 @@ fn fill_accepted(t: Tables, sheet: &[u8], out: &mut [u8]) -> Result<usize, Refus
 {
     let mut states = [OPEN; 256];
     load(sheet, &mut states);
-    if run(t.maker, t.depot, &mut states) {
+    let Ok(()) = run(t, &mut states) else {
         return Err(Refusal::Clash);
-    }
+    };
     hand_out(t, sheet, &states[..t.n], out)
 }
 

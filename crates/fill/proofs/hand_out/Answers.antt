@@ -2,17 +2,17 @@
 -- Assumes nothing.
 use mathlib.Core.Path.{sym, ◌∙◌}
 use native.Mathlib.Omega.{arith}
+use Rattle.lemmas.proofs.Lowest.{none_below}
 use Rattle.fill.proofs.Says.{filled_size, handed_broken, handed_boxes}
-use Rattle.fill.proofs.hand_out.Goals.{then-count_open-eq0+else-i-records, else-count_open-eq0}
+use Rattle.fill.proofs.hand_out.Goals.{then-count_open-eq0+in_default, else-count_open-eq0}
 use Rattle.fill.proofs.hand_out.Goals as goal
 
 pub count_open-requires : goal.count_open-requires
 count_open-requires c = let size = filled_size _ _ _ _ c.requires.fills_to in omega arith
 
-pub returns-then-i-records : goal.returns-then-i-records
-returns-then-i-records c =
-    handed_broken _ _ _ c.args.out.now _ c.requires.fills_to _ c.first_broken-i.ensures (sym c.count_open.ensures ∙ c.if-count_open-eq0.true)
-    (omega arith)
+pub returns-in-Some : goal.returns-in-Some
+returns-in-Some c =
+    handed_broken _ _ _ c.args.out.now _ c.requires.fills_to c.in-Some.ensures (sym c.count_open.ensures ∙ c.if-count_open-eq0.true)
 
 pub store-requires : goal.store-requires
 store-requires c = let size = filled_size _ _ _ _ c.requires.fills_to in omega arith
@@ -22,7 +22,7 @@ returns c =
     handed_boxes _ _ _ c.args.out.now _ c.requires.fills_to _ c.store.new.out
     (λ full below.
     elim c.if-count_open-eq0.branch [
-      | then-count_open-eq0+else-i-records w ↦ omega arith
+      | then-count_open-eq0+in_default w ↦ let past = none_below _ _ w.in_default.ensures in omega arith
       | else-count_open-eq0 w ↦ absurd (w.if-count_open-eq0.false (c.count_open.ensures ∙ full))
     ])
     c.count_filled.ensures c.store.ensures
