@@ -1,4 +1,5 @@
 pub mod Choice
 pub mod Filled
+pub mod Standing
 pub mod Start
 pub mod Trials

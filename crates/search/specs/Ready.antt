@@ -1,7 +1,7 @@
 -- What a search is handed: good tables, 256 states of which those from n on are open, and a list of n boxes to pass. And what each
 -- of its trials is: the tables' index, and a sheet that is at rest but for one box.
 -- Assumes nothing.
-use Rattle.std.specs.Prelude.{◌≡◌, Bool, true, List, ℕ, ◌*◌, ◌≤◌, ◌<◌, length}
+use Rattle.std.specs.Prelude.{◌≡◌, List, ℕ, ◌*◌, ◌≤◌, ◌<◌, length, IfSome}
 use Rattle.spec.specs.Records.{Rec}
 use Rattle.spec.proofs.Accepted.{Accepted}
 use Rattle.spec.proofs.Named.{Good}
@@ -9,30 +9,30 @@ use Rattle.kits.specs.Kit.{SettledBelow, OpenFrom}
 use Rattle.engine.specs.Moves.{Cells}
 use Rattle.index.specs.Index.{Packed, Linked, packed_rules}
 use Rattle.engine.specs.Queue.{Poised}
-use Rattle.search.specs.Look.{SameBelow}
+use Rattle.search.specs.Look.{Given, SameBelow}
 
-pub record Ready (maker depot : List ℕ) (n : ℕ) (s given : List ℕ) (after : Bool) : Type 0 where
+pub record Ready (maker depot : List ℕ) (n : ℕ) (s : List ℕ) (given : Given) : Type 0 where
   pub tables : Accepted n maker depot
   pub cells : Cells s
   pub past : OpenFrom n s
-  pub size : after ≡ true → length given ≡ n
+  pub size : IfSome given (λ list. length list.now ≡ n)
 
 -- a sheet on which only box `from` is settled since every rule was at rest, and every box below it is settled; a list that is to be
 -- passed has the same states there
-pub record OnTrial (qs : List Rec) (n : ℕ) (s : List ℕ) (from : ℕ) (given : List ℕ) (after : Bool) : Type 0 where
+pub record OnTrial (qs : List Rec) (n : ℕ) (s : List ℕ) (from : ℕ) (given : Given) : Type 0 where
   pub boxes : n ≤ 256
   pub good : Good n qs
   pub cells : Cells s
   pub past : OpenFrom n s
-  pub size : after ≡ true → length given ≡ n
+  pub size : IfSome given (λ list. length list.now ≡ n)
   pub poised : Poised qs s from
   pub within : from ≤ n
   pub below : from < 256
   pub front : SettledBelow from s
-  pub same : after ≡ true → SameBelow from s given
+  pub same : IfSome given (λ list. SameBelow from s list.now)
 
 -- the first m packed rules, their chains, and a sheet on trial under them
-pub record TrialReady (packed : List ℕ) (m : ℕ) (first next : List ℕ) (n : ℕ) (s : List ℕ) (from : ℕ) (given : List ℕ) (after : Bool) : Type 0 where
+pub record TrialReady (packed : List ℕ) (m : ℕ) (first next : List ℕ) (n : ℕ) (s : List ℕ) (from : ℕ) (given : Given) : Type 0 where
   pub rules : Packed packed m (packed_rules packed m)
   pub chains : Linked packed (4 * m) first next
-  pub trial : OnTrial (packed_rules packed m) n s from given after
+  pub trial : OnTrial (packed_rules packed m) n s from given

@@ -1,90 +1,59 @@
 // What the search looks at on a filled sheet: its lowest open box, and how the boxes before that stand to a given list.
-ghost use Rattle.std.specs.Prelude.{◌≡◌, true, ◌≤◌, ◌<◌, length};
+ghost use Rattle.std.specs.Prelude.{◌≡◌, true, ◌≤◌, ◌<◌, length, IfSome, IsSomeAnd, get_or, unwrap_or};
 ghost use Rattle.kits.specs.Kit.{SettledBelow};
-ghost use Rattle.search.specs.Look.{LowestOpen, SameBelow, Stands, bound_of, PastOut};
+ghost use Rattle.search.specs.Look.{LowestOpen, SameBelow, Stands, bound_of};
 
 use records::states::{OPEN, OUT};
+use std::cmp::Ordering;
 
-// How the first boxes of a sheet stand to the given list. Where no list is to be passed they are past it from the start.
-#[derive(Clone, Copy)]
-pub enum Standing {
-    Before,
-    Same,
-    Past,
-}
-
-// The lowest open box below n, or n where none is open. The boxes below `from` are settled, and not looked at again.
-pub fn lowest_open(states: &[u8], from: usize, n: usize) -> usize
+// The lowest open box below n. The boxes below `from` are settled, and not looked at again.
+pub fn lowest_open(states: &[u8], from: usize, n: usize) -> Option<usize>
     requires n_in_bounds { n ≤ length states.now }
     requires from_le_n { from ≤ n }
     requires settled_below { SettledBelow from states.now }
-    ensures { LowestOpen states.now n result }
+    ensures lowest { LowestOpen states.now n (unwrap_or result n) }
+    ensures below { IfSome result (λ b. b < n) }
 {
-    let mut b = from;
-    while b < n {
+    for b in from..n {
         if states[b] == OPEN {
-            return b;
+            return Some(b);
         }
-        b += 1;
     }
-    b
+    None
 }
 
-// How the first b boxes stand to a list that is to be passed: the lowest of them where the two differ decides. Below `from` they
-// are the same.
-fn standing_of(states: &[u8], given: &[u8], from: usize, b: usize) -> Standing
+// How the first b boxes stand to the given list, which has the same states below `from`: the lowest of them where the two differ
+// decides. Where no list is to be passed they are past it from the start.
+pub fn standing_to(states: &[u8], given: Option<&[u8]>, from: usize, b: usize) -> Ordering
     requires b_in_bounds { b ≤ length states.now }
-    requires b_in_bounds_2 { b ≤ length given.now }
+    requires b_in_bounds_2 { IfSome given (λ list. b ≤ length list.now) }
     requires from_le_b { from ≤ b }
-    requires same_below { SameBelow from states.now given.now }
-    ensures { Stands states.now given.now b true result }
+    requires same_below { IfSome given (λ list. SameBelow from states.now list.now) }
+    ensures { Stands states.now given.entry b result }
 {
-    let mut c = from;
-    while c < b {
-        if states[c] < given[c] {
-            return Standing::Before;
-        }
-        if given[c] < states[c] {
-            return Standing::Past;
-        }
-        c += 1;
-    }
-    Standing::Same
-}
-
-// How the first b boxes stand to the given list, which is to be passed if `after`, and is the same then below `from`.
-pub fn standing_to(states: &[u8], given: &[u8], from: usize, b: usize, after: bool) -> Standing
-    requires b_in_bounds { b ≤ length states.now }
-    requires b_in_bounds_2 { after ≡ true → b ≤ length given.now }
-    requires from_le_b { from ≤ b }
-    requires same_below { after ≡ true → SameBelow from states.now given.now }
-    ensures { Stands states.now given.now b after result }
-{
-    if after {
-        standing_of(states, given, from, b)
-    } else {
-        Standing::Past
+    match given {
+        Some(list) => states[from..b].cmp(&list[from..b]),
+        None => Ordering::Greater,
     }
 }
 
-// Whether the boxes that follow have still to pass the given list.
-pub fn is_bound(standing: Standing) -> bool
-    ensures { result ≡ bound_of standing }
+// The given list, if the boxes that follow have still to pass it.
+pub fn still_given<'a>(given: Option<&'a [u8]>, standing: Ordering) -> Option<&'a [u8]>
+    ensures { result ≡ bound_of standing given.entry }
 {
     match standing {
-        Standing::Before => false,
-        Standing::Same => true,
-        Standing::Past => false,
+        Ordering::Equal => given,
+        Ordering::Less | Ordering::Greater => None,
     }
 }
 
-// Whether the given list is still to be passed and has more than out at box b: each list that has b out stands before it then.
-pub fn is_past_out(given: &[u8], b: usize, bound: bool) -> bool
-    requires { bound ≡ true → b < length given.now }
-    ensures { result ≡ true → PastOut given.now b bound }
+// Whether a given list is still to be passed and has more than out at box b: each list that has b out stands before it then.
+pub fn is_past_out(given: Option<&[u8]>, b: usize) -> bool
+    requires { IfSome given (λ list. b < length list.now) }
+    ensures { result ≡ true → IsSomeAnd given.entry (λ list. 0 < get_or list.now b 2) }
 {
-    if bound {
-        return OUT < given[b];
+    match given {
+        Some(list) => OUT < list[b],
+        None => false,
     }
-    false
 }

@@ -5,4 +5,4 @@ use Rattle.spec.specs.Fill.{open_count}
 use Rattle.search.proofs.+trial.Given as goal
 
 abbrev pub decreases-trial : goal.decreases-trial
-decreases-trial l = open_count (set l.sheet l.from l.state)
+decreases-trial l = open_count (set l.sheet.states l.from l.state)

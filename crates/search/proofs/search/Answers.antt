@@ -1,17 +1,9 @@
 -- `search::search` meets its contract: the first trial starts from the sheet filled to rest.
 -- Assumes nothing.
-use mathlib.Core.Path.{◌≡◌, refl, sym}
-use mathlib.Core.Bool.{false}
-use mathlib.Core.List.{List}
-use Prim.Native.Nat.{ℕ}
-use lib.ListN.{get_or, set, take}
-use lib.Seq.{set-get_or}
-use Rattle.spec.specs.Records.{rules_in}
+use mathlib.Core.Path.{refl}
 use Rattle.spec.proofs.Accepted.{accepted_all}
-use Rattle.kits.specs.Kit.{Wanted}
 use Rattle.index.proofs.Packing.{packed_good, packed_own}
 use Rattle.index.proofs.Linking.{linked_zeros}
-use Rattle.search.proofs.Trials.{with_found}
 use Rattle.search.proofs.Start.{start_clash, start_trial, start_answer}
 use Rattle.search.proofs.search.Goals as goal
 
@@ -33,20 +25,10 @@ run_indexed-requires c =
     }
 
 pub returns-then-run_indexed : goal.returns-then-run_indexed
-returns-then-run_indexed c =
-    let a = c.args in
-    let l = take a.n c.nothing.result.sheet.states in
-    with_found (Wanted (rules_in a.maker.now a.depot.now) a.n a.sheet.states a.after a.given.now) false c.nothing.result.found l
-    (sym c.nothing.ensures)
-    (start_clash c.requires c.pack-m.ensures.rules c.if-run_indexed.ensures l)
-
--- box 0 gets the state that it has
-same_states : (t : List ℕ) → set t 0 (get_or t 0 0) ≡ t
-same_states t = set-get_or t 0 0
+returns-then-run_indexed c = start_clash c.requires c.pack-m.ensures.rules c.if-run_indexed.ensures
 
 pub trial-requires : goal.trial-requires
 trial-requires c =
-    rw (same_states c.run_indexed.new.states) (
     record {
       trial_ready =
           record {
@@ -55,9 +37,7 @@ trial-requires c =
             trial = start_trial c.requires c.pack-m.ensures.rules c.if-run_indexed.ensures;
           };
       queue_len = refl;
-    })
+    }
 
 pub returns : goal.returns
-returns c =
-    start_answer c.requires c.pack-m.ensures.rules c.if-run_indexed.ensures c.trial.result.found
-    (take c.args.n c.trial.result.sheet.states) (rw (same_states c.run_indexed.new.states) at c.trial.ensures.answer_to)
+returns c = start_answer c.requires c.pack-m.ensures.rules c.if-run_indexed.ensures c.trial.result c.trial.ensures.answer_to
