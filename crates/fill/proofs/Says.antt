@@ -8,11 +8,13 @@ use lib.ListN.{length, take}
 use Rattle.std.specs.Prelude.{Result, Ok, Err, Some}
 use Rattle.lemmas.specs.Lowest.{if_below}
 use Rattle.lemmas.proofs.Lowest.{some_below}
-use Rattle.spec.specs.Refusals.{reason, Said, refused, answered, written}
+use Rattle.spec.specs.Refusals.{reason, Said, refused, answered, passed, judge, written, order_checks}
 use Rattle.spec.specs.Records.{record_count, rules_in}
 use Rattle.spec.specs.Fits.{first_broken}
-use Rattle.spec.specs.Fill.{closure_of, open_count, boxes_filled, fill_judges}
-use Rattle.spec.proofs.Accepted.{AcceptedSheet}
+use Rattle.spec.specs.Fill.{closure_of, open_count, boxes_filled, fill_judges, fill_says, fill_writes}
+use Rattle.spec.proofs.Accepted.{AcceptedSheet, AcceptedOrder, order_accepted}
+use Rattle.spec.proofs.Judge.{does_refused, does_passed}
+use Rattle.accept.specs.Form.{form_says}
 use Rattle.spec.proofs.Closed.{closed_length}
 use Rattle.theory.specs.Steps.{Loaded, Grown}
 use Rattle.theory.proofs.Filling.{fill_clash, fill_broken, fill_filled}
@@ -21,7 +23,7 @@ use Rattle.theory.proofs.Numbered.{rules_good}
 use Rattle.engine.specs.Moves.{SomeClash, AllStable}
 use Rattle.refusals.specs.declared.Refusal.{Refusal}
 use Rattle.refusals.specs.declared.Refusal.TheVariants.{Clash, Broken}
-use Rattle.fill.specs.Answer.{filled_says, FillDoesInForm, FillsTo}
+use Rattle.fill.specs.Answer.{filled_says, FillDoes, FillDoesInForm, FillsTo}
 
 -- what is said decides what is written
 pub does : (maker depot sheet out : List ℕ) (answer : Result ℕ Refusal) {left : List ℕ} → fill_judges maker depot sheet ≡ filled_says answer →
@@ -72,3 +74,20 @@ module _ {n : ℕ} (maker depot sheet : List ℕ) {states : List ℕ} (known : A
         closure = loaded_closed loaded grown stable own.tables.boxes (rules_good maker depot own.tables) own.sheet_bytes;
         unclashed = loaded_none loaded grown stable;
       })
+
+-- the checks come first
+module _ (maker depot sheet out : List ℕ) where
+  pub fill_refused : (why : Refusal) → form_says (Err why) ≡ judge (order_checks maker depot sheet out) passed →
+      FillDoes maker depot sheet out (Err why) out
+  unfolding fill_says fill_writes
+  fill_refused why e =
+      does_refused (order_checks maker depot sheet out) (fill_judges maker depot sheet) (closure_of maker depot sheet) out (sym e)
+
+  pub fill_passed : (answer : Result ℕ Refusal) (left : List ℕ) → passed ≡ judge (order_checks maker depot sheet out) passed →
+      FillDoesInForm maker depot sheet out answer left → FillDoes maker depot sheet out answer left
+  unfolding fill_says fill_writes
+  fill_passed answer left e =
+      does_passed (order_checks maker depot sheet out) (fill_judges maker depot sheet) (closure_of maker depot sheet) out (sym e)
+
+  pub fill_order : passed ≡ judge (order_checks maker depot sheet out) passed → AcceptedOrder maker depot sheet out
+  fill_order e = order_accepted maker depot sheet out (sym e)

@@ -1,5 +1,5 @@
 // The public operation Fill: the checks, the engine, and what is written.
-#![tactic(auto)]
+#![tactic(auto, using(crate::proofs::Says::filled_size, crate::proofs::Says::fill_order))]
 
 ghost use Rattle.std.specs.Prelude.{◌≡◌, ◌≤◌, length};
 ghost use Rattle.spec.proofs.Accepted.{AcceptedSheet};

@@ -3,19 +3,13 @@
 use mathlib.Core.Path.{sym, ◌∙◌}
 use native.Mathlib.Omega.{arith}
 use Rattle.lemmas.proofs.Lowest.{none_below}
-use Rattle.fill.proofs.Says.{filled_size, handed_broken, handed_boxes}
+use Rattle.fill.proofs.Says.{handed_broken, handed_boxes}
 use Rattle.fill.proofs.hand_out.Goals.{then-count_open-eq0+in_default, else-count_open-eq0}
 use Rattle.fill.proofs.hand_out.Goals as goal
-
-pub count_open-requires : goal.count_open-requires
-count_open-requires c = let size = filled_size _ _ _ _ c.requires.fills_to in omega arith
 
 pub returns-in-Some : goal.returns-in-Some
 returns-in-Some c =
     handed_broken _ _ _ c.args.out.now _ c.requires.fills_to c.in-Some.ensures (sym c.count_open.ensures ∙ c.if-count_open-eq0.true)
-
-pub store-requires : goal.store-requires
-store-requires c = let size = filled_size _ _ _ _ c.requires.fills_to in omega arith
 
 pub returns : goal.returns
 returns c =
