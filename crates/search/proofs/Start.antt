@@ -10,17 +10,19 @@ use lib.ListN.{get_or, set}
 use lib.Seq.{set-get_or}
 use Rattle.std.specs.Prelude.{Option, Some, None, is_some, IfSome}
 use Rattle.spec.specs.Records.{Rec, rules_in}
+use Rattle.spec.proofs.Accepted.{Accepted}
 use Rattle.spec.proofs.Named.{Good}
 use Rattle.theory.proofs.Numbered.{rules_good}
 use Rattle.kits.proofs.Forced.{clash_answer}
-use Rattle.engine.specs.Moves.{SomeClash, Rested}
+use Rattle.theory.specs.Steps.{Grown}
+use Rattle.engine.specs.Moves.{SomeClash, AllStable}
 use Rattle.sheet.specs.declared.Sheet.{Sheet}
 use Rattle.search.proofs.Filled.{grown_past, grown_answer}
 use Rattle.search.proofs.Trials.{finds_as}
 use Rattle.search.specs.Look.{Given, given_of, Asks, Finds, SameBelow}
 use Rattle.search.specs.Ready.{Ready, OnTrial}
 
-module _ {maker depot : List ℕ} {n : ℕ} {s : List ℕ} {given : Given} (ready : Ready maker depot n s given)
+module _ {maker depot : List ℕ} {n : ℕ} {s : List ℕ} {given : Given} (tables : Accepted n maker depot) (ready : Ready n s given)
     {qs : List Rec} (same : qs ≡ rules_in maker depot) where
   -- an answer under the packed rules is one under the tables'
   start_rules : (r : Option Sheet) → Finds (Asks qs n s given) n r → Finds (Asks (rules_in maker depot) n s given) n r
@@ -30,7 +32,7 @@ module _ {maker depot : List ℕ} {n : ℕ} {s : List ℕ} {given : Given} (read
   pub start_clash : SomeClash qs s → Finds (Asks (rules_in maker depot) n s given) n None
   start_clash c = start_rules None (clash_answer qs n s ready.past c.0 c.1 (is_some given) (given_of given) [])
 
-  module _ {t : List ℕ} (rest : Rested qs s t false) where
+  module _ {t : List ℕ} (rest : Grown qs s t × AllStable qs t) where
     -- box 0 gets the state that it has
     same_states : set t 0 (get_or t 0 0) ≡ t
     same_states = set-get_or t 0 0
@@ -38,10 +40,10 @@ module _ {maker depot : List ℕ} {n : ℕ} {s : List ℕ} {given : Given} (read
     -- every rule is at rest, and no box is settled since
     pub start_trial : OnTrial qs n (set t 0 (get_or t 0 0)) 0 given
     start_trial =
-        let good : Good n qs = subst⁻¹ (Good n) same (rules_good maker depot ready.tables) in
+        let good : Good n qs = subst⁻¹ (Good n) same (rules_good maker depot tables) in
         rw same_states
         (record {
-          boxes = ready.tables.boxes;
+          boxes = tables.boxes;
           good = good;
           cells = record { size = rest.0.size ∙ ready.cells.size; sheet = rest.0.sheet };
           past = grown_past n ready.past ready.cells rest.0 good;

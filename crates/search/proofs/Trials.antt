@@ -25,7 +25,7 @@ use Rattle.kits.proofs.Forced.{clash_answer}
 use Rattle.kits.proofs.AtRest.{rest_answer}
 use Rattle.kits.proofs.Branch.{set_past, branch_out, branch_in}
 use Rattle.kits.proofs.Bound.{bound_less, bound_more, bound_same}
-use Rattle.engine.specs.Moves.{SomeClash, Rested}
+use Rattle.engine.specs.Moves.{SomeClash, AllStable}
 use Rattle.sheet.specs.declared.Sheet.{Sheet}
 use Rattle.search.proofs.Choice.{choice_poised, choice_front}
 use Rattle.search.proofs.Filled.{grown_past, grown_answer}
@@ -44,7 +44,7 @@ Sized n given = IfSome given (λ list. length list.now ≡ n)
 
 -- what a trial knows: the sheet filled to rest, its lowest open box, and how the boxes before that stand to the given list
 pub record Looked (qs : List Rec) (n : ℕ) (s : List ℕ) (given : Given) (t : List ℕ) (b : ℕ) (w : Ordering) : Type 0 where
-  pub rest : Rested qs s t false
+  pub rest : Grown qs s t × AllStable qs t
   pub low : LowestOpen t n b
   pub stands : Stands t given b w
 

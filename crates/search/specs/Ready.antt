@@ -1,18 +1,17 @@
--- What a search is handed: good tables, 256 states of which those from n on are open, and a list of n boxes to pass. And what each
+-- What a search is handed: 256 states of which those from n on are open, and a list of n boxes to pass. And what each
 -- of its trials is: the tables' index, and a sheet that is at rest but for one box.
 -- Assumes nothing.
-use Rattle.std.specs.Prelude.{◌≡◌, List, ℕ, ◌*◌, ◌≤◌, ◌<◌, length, IfSome}
+use Rattle.std.specs.Prelude.{◌≡◌, List, ℕ, ◌≤◌, ◌<◌, length, IfSome}
 use Rattle.spec.specs.Records.{Rec}
-use Rattle.spec.proofs.Accepted.{Accepted}
 use Rattle.spec.proofs.Named.{Good}
 use Rattle.kits.specs.Kit.{SettledBelow, OpenFrom}
 use Rattle.engine.specs.Moves.{Cells}
-use Rattle.index.specs.Index.{Packed, Linked, packed_rules}
-use Rattle.engine.specs.Queue.{Poised}
+use Rattle.index.specs.declared.Index.{Index}
+use Rattle.index.specs.Whole.{Indexed}
+use Rattle.engine.specs.Queue.{rules_of, Poised}
 use Rattle.search.specs.Look.{Given, SameBelow}
 
-pub record Ready (maker depot : List ℕ) (n : ℕ) (s : List ℕ) (given : Given) : Type 0 where
-  pub tables : Accepted n maker depot
+pub record Ready (n : ℕ) (s : List ℕ) (given : Given) : Type 0 where
   pub cells : Cells s
   pub past : OpenFrom n s
   pub size : IfSome given (λ list. length list.now ≡ n)
@@ -31,8 +30,7 @@ pub record OnTrial (qs : List Rec) (n : ℕ) (s : List ℕ) (from : ℕ) (given 
   pub front : SettledBelow from s
   pub same : IfSome given (λ list. SameBelow from s list.now)
 
--- the first m packed rules, their chains, and a sheet on trial under them
-pub record TrialReady (packed : List ℕ) (m : ℕ) (first next : List ℕ) (n : ℕ) (s : List ℕ) (from : ℕ) (given : Given) : Type 0 where
-  pub rules : Packed packed m (packed_rules packed m)
-  pub chains : Linked packed (4 * m) first next
-  pub trial : OnTrial (packed_rules packed m) n s from given
+-- the index, and a sheet on trial under its rules
+pub record TrialReady (index : Index) (n : ℕ) (s : List ℕ) (from : ℕ) (given : Given) : Type 0 where
+  pub indexed : Indexed index (rules_of index)
+  pub trial : OnTrial (rules_of index) n s from given

@@ -2,7 +2,7 @@
 -- Assumes nothing.
 use Rattle.std.proofs.Common.{◌≡◌, ℕ, ◌≤◌, ◌<◌, unwrap_or, refl, set, arith, rules}
 use Rattle.spec.specs.Fill.{open_count}
-use Rattle.index.specs.Index.{packed_rules}
+use Rattle.engine.specs.Queue.{rules_of}
 use Rattle.search.specs.Ready.{TrialReady}
 use Rattle.search.proofs.Trials.{filled_front, filled_same, low_after, Looked, trial_clash, trial_before, trial_full}
 use Rattle.search.proofs.Trials.{branch_ready, branch_falls, out_before, trial_out, trial_in}
@@ -12,29 +12,29 @@ use Rattle.search.proofs.+trial.Goals as goal
 
 -- what is known once the given list has been looked at, if b is the lowest open box
 looked : (t : ℕ) (c : After-standing_to-standing t) (b : ℕ) → unwrap_or c.lowest_open-lowest.result c.args.n ≡ b →
-    Looked (packed_rules c.args.packed.now c.args.m) c.args.n (set c.args.sheet.states c.args.from c.args.state) c.args.given
+    Looked (rules_of c.args.index.now) c.args.n (set c.args.sheet.states c.args.from c.args.state) c.args.given
     c.go_on.new.states b c.standing_to-standing.result
 looked t c b e =
     record {
-      rest = rw c.settled-own.ensures at c.if-go_on.ensures.rested;
+      rest = rw c.settled-own.ensures at c.in-Ok.ensures.rested;
       low = rw e at c.lowest_open-lowest.ensures.lowest;
       stands = rw (c.unwrap_or.ensures, e) at c.standing_to-standing.ensures;
     }
 
 -- the same where a box is open, and what a branch is handed then
 looked_open : (t : ℕ) (c : In-Some t) →
-    Looked (packed_rules c.args.packed.now c.args.m) c.args.n (set c.args.sheet.states c.args.from c.args.state) c.args.given
+    Looked (rules_of c.args.index.now) c.args.n (set c.args.sheet.states c.args.from c.args.state) c.args.given
     c.go_on.new.states c.in-Some.b c.standing_to-standing.result
 looked_open t c =
     record {
-      rest = rw c.settled-own.ensures at c.if-go_on.ensures.rested;
+      rest = rw c.settled-own.ensures at c.in-Ok.ensures.rested;
       low = c.in-Some.ensures.lowest;
       stands = rw (c.unwrap_or.ensures, c.in-Some.is) at c.standing_to-standing.ensures;
     }
 
 handed : (t : ℕ) (c : In-Some t) (v : ℕ) → v ≤ 1 →
     (open_count (set c.go_on.new.states c.in-Some.b v) < open_count (set c.args.sheet.states c.args.from c.args.state))
-    × TrialReady c.args.packed.now c.args.m c.args.first.now c.args.next.now c.args.n (set c.go_on.new.states c.in-Some.b v) c.in-Some.b
+    × TrialReady c.args.index.now c.args.n (set c.go_on.new.states c.in-Some.b v) c.in-Some.b
     c.still_given-bound.result
 handed t c v small =
     let began = c.requires.trial_ready in
@@ -42,30 +42,29 @@ handed t c v small =
     let below = c.in-Some.ensures.below in (
       branch_falls began.trial seen c.still_given-bound.ensures (search rules) below v small,
       record {
-        rules = began.rules;
-        chains = began.chains;
+        indexed = began.indexed;
         trial = branch_ready began.trial seen c.still_given-bound.ensures (search rules) below v small;
       },
     )
 
-pub returns-then-go_on-clause-answer_to : goal.returns-then-go_on-clause-answer_to
-returns-then-go_on-clause-answer_to t c =
-    trial_clash c.requires.trial_ready.trial (rw c.settled-own.ensures at c.if-go_on.ensures.rested)
+pub returns-in_default-clause-answer_to : goal.returns-in_default-clause-answer_to
+returns-in_default-clause-answer_to t c =
+    trial_clash c.requires.trial_ready.trial (rw c.settled-own.ensures at c.in_default.ensures.rested)
 
 pub lowest_open-lowest-requires-clause-settled_below : goal.lowest_open-lowest-requires-clause-settled_below
 lowest_open-lowest-requires-clause-settled_below t c =
-    let rested = rw c.settled-own.ensures at c.if-go_on.ensures.rested in
+    let rested = rw c.settled-own.ensures at c.in-Ok.ensures.rested in
     filled_front c.requires.trial_ready.trial rested.0
 
 pub standing_to-standing-requires-clause-from_le_b : goal.standing_to-standing-requires-clause-from_le_b
 standing_to-standing-requires-clause-from_le_b t c =
-    let rested = rw c.settled-own.ensures at c.if-go_on.ensures.rested in
+    let rested = rw c.settled-own.ensures at c.in-Ok.ensures.rested in
     let ready = c.requires.trial_ready.trial in
     rw c.unwrap_or.ensures (low_after c.lowest_open-lowest.ensures.lowest (filled_front ready rested.0) ready.within)
 
 pub standing_to-standing-requires-clause-same_below : goal.standing_to-standing-requires-clause-same_below
 standing_to-standing-requires-clause-same_below t c =
-    let rested = rw c.settled-own.ensures at c.if-go_on.ensures.rested in
+    let rested = rw c.settled-own.ensures at c.in-Ok.ensures.rested in
     filled_same c.requires.trial_ready.trial rested.0
 
 pub returns-then-eq-clause-answer_to : goal.returns-then-eq-clause-answer_to
@@ -73,17 +72,17 @@ returns-then-eq-clause-answer_to t c =
     let here = (goal.at.returns-then-eq-clause-answer_to t c).After-standing_to-standing in
     trial_before c.requires.trial_ready.trial (looked t here _ refl) (search rules)
 
-pub returns-in_default-clause-answer_to : goal.returns-in_default-clause-answer_to
-returns-in_default-clause-answer_to t c =
-    let here = (goal.at.returns-in_default-clause-answer_to t c).After-standing_to-standing in
+pub returns-in_default-lowest-clause-answer_to : goal.returns-in_default-lowest-clause-answer_to
+returns-in_default-lowest-clause-answer_to t c =
+    let here = (goal.at.returns-in_default-lowest-clause-answer_to t c).After-standing_to-standing in
     rw c.then_some.ensures
-    (trial_full c.requires.trial_ready.trial (looked t here c.args.n (rw c.in_default.is)) c.still_given-bound.ensures (search rules)
+    (trial_full c.requires.trial_ready.trial (looked t here c.args.n (rw c.in_default-lowest.is)) c.still_given-bound.ensures (search rules)
     refl c.is_none.result c.is_none.ensures)
 
 pub trial-requires : goal.trial-requires
 trial-requires t c =
     let (falls, ready) = handed t (goal.at.trial-requires t c).In-Some 0 (omega arith) in
-    (omega (arith, falls), (ready, c.if-go_on.ensures.queue_len_2))
+    (omega (arith, falls), (ready, c.in-Ok.ensures.queue_len_2))
 
 pub returns-in-Some-trial-clause-answer_to : goal.returns-in-Some-trial-clause-answer_to
 returns-in-Some-trial-clause-answer_to t c =
