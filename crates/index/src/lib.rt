@@ -4,14 +4,13 @@
 
 ghost use Rattle.std.specs.Prelude.{◌≡◌, false, [], ◌∷◌, ◌++◌, ℕ, ◌+◌, ◌*◌, ◌<◌, ◌≤◌, length, get_or};
 ghost use Rattle.spec.specs.Records.{rules_in, bad};
-ghost use Rattle.spec.proofs.Accepted.{Accepted};
 ghost use Rattle.spec.proofs.Named.{Good};
 ghost use Rattle.records.specs.Record.{as_rec};
 ghost use Rattle.index.specs.Index.{rule_at, packed_rules, Packed, Linked, Held};
 ghost use Rattle.index.specs.Whole.{Indexed};
 
 use records::kinds::has_z;
-use records::{Record, count, is_rule, record_at};
+use records::{Record, is_rule};
 use tables::Tables;
 
 // The bytes of a packed rule: kind, x, y, z. Where z is missing its byte is of no matter.
@@ -50,14 +49,13 @@ fn pack_rule(packed: &mut [u8; 4096], m: usize, q: Record)
 }
 
 // Writes the rules of both tables one after the other, and answers how many they are.
-pub fn pack<'a>(maker: &'a [u8], depot: &'a [u8], packed: &mut [u8; 4096]) -> usize
-    requires accepted { Accepted 256 maker.now depot.now }
-    requires packed_len { length packed.old ≡ 4096 }
-    ensures { Packed packed.new result (rules_in maker.now depot.now) }
+fn pack(t: Tables, packed: &mut [u8; 4096]) -> usize
+    requires { length packed.old ≡ 4096 }
+    ensures { Packed packed.new result (rules_in t.entry.maker.now t.entry.depot.now) }
 {
     let mut m = 0;
-    for i in 0..count(maker, depot) {
-        let q = record_at(maker, depot, i);
+    for i in 0..t.records() {
+        let q = t.record(i);
         if is_rule(q) {
             pack_rule(packed, m, q);
             m += 1;
@@ -94,7 +92,7 @@ fn link_rule(packed: &[u8; 4096], j: usize, first: &mut [u16; 256], next: &mut [
 }
 
 // The chains of m packed rules, from none.
-pub fn link(packed: &[u8; 4096], m: usize, first: &mut [u16; 256], next: &mut [u16; 4096])
+fn link(packed: &[u8; 4096], m: usize, first: &mut [u16; 256], next: &mut [u16; 4096])
     requires m_bound { m ≤ 1024 }
     requires good { Good 256 (packed_rules packed.now m) }
     requires linked { Linked packed.now 0 first.old next.old }
@@ -122,7 +120,7 @@ impl Index {
         let mut packed = [0; 4096];
         let mut first = [0; 256];
         let mut next = [0; 4096];
-        let rules = pack(t.maker, t.depot, &mut packed);
+        let rules = pack(t, &mut packed);
         link(&packed, rules, &mut first, &mut next);
         Index {
             packed,

@@ -4,6 +4,7 @@ use mathlib.Core.Path.{refl, sym, ap, ◌∙◌}
 use native.Mathlib.Omega.{arith}
 use borrow.Author.Rules.{rules}
 use Rattle.spec.specs.Records.{is_rule}
+use Rattle.spec.proofs.Accepted.{accepted_all}
 use Rattle.index.specs.Index.{packed_rules}
 use Rattle.index.proofs.Packing.{rules_kept, rules_passed, packed_all}
 use Rattle.index.proofs.pack.Goals.{then-is_rule, else-is_rule}
@@ -11,25 +12,22 @@ use Rattle.index.proofs.pack.Goals as goal
 
 pub loop-i-init : goal.loop-i-init
 unfolding packed_rules
-loop-i-init c = (search rules, c.requires.packed_len, refl)
-
-pub record_at-q-requires : goal.record_at-q-requires
-record_at-q-requires c = record { whole_records = c.requires.accepted.whole; number_bound = omega arith }
+loop-i-init c = (search rules, c.requires, refl)
 
 pub pack_rule-requires : goal.pack_rule-requires
 pack_rule-requires c =
-    let accepted = c.requires.accepted in
+    let accepted = accepted_all c.args.t.accepted in
     record {
       m_bound = omega (arith, accepted.count);
       packed_len = c.loop-i.invariant.1;
-      q_value = rw c.record_at-q.ensures (accepted.good c.loop-i.i (omega arith));
+      q_value = rw c.record-q.ensures (accepted.good c.loop-i.i (omega arith));
     }
 
 pub loop-i-preserved : goal.loop-i-preserved
 loop-i-preserved c =
-    let maker = c.args.maker.now in
-    let depot = c.args.depot.now in
-    let read = c.record_at-q.ensures in
+    let maker = c.args.t.maker.now in
+    let depot = c.args.t.depot.now in
+    let read = c.record-q.ensures in
     let told = ap is_rule (sym read) ∙ sym c.is_rule.ensures in (
       elim c.if-is_rule.branch [ then-is_rule w ↦ omega (arith, w.m-is) | else-is_rule w ↦ omega (arith, w.m-is) ],
       elim c.if-is_rule.branch [
@@ -44,4 +42,4 @@ loop-i-preserved c =
 
 pub returns : goal.returns
 returns c =
-    packed_all c.requires.accepted c.loop-i.invariant.1 c.loop-i.invariant.0 (omega arith) c.loop-i.invariant.2
+    packed_all (accepted_all c.args.t.accepted) c.loop-i.invariant.1 c.loop-i.invariant.0 (omega arith) c.loop-i.invariant.2

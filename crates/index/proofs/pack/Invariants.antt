@@ -7,4 +7,4 @@ use Rattle.index.proofs.pack.Given as goal
 
 abbrev pub invariant-loop-i : goal.invariant-loop-i
 invariant-loop-i l =
-    (l.m ≤ l.i) × (length l.packed ≡ 4096) × (packed_rules l.packed l.m ≡ rules_below l.maker l.depot l.i)
+    (l.m ≤ l.i) × (length l.packed ≡ 4096) × (packed_rules l.packed l.m ≡ rules_below l.t.maker.now l.t.depot.now l.i)

@@ -1,11 +1,7 @@
 -- `index::Index::of` meets its contract: the rules of the tables, and their chains from none.
 -- Assumes nothing.
-use Rattle.spec.proofs.Accepted.{accepted_all}
 use Rattle.index.proofs.Linking.{linked_zeros}
 use Rattle.index.proofs.Index.of.Goals as goal
-
-pub pack-rules-requires-clause-accepted : goal.pack-rules-requires-clause-accepted
-pack-rules-requires-clause-accepted c = accepted_all c.args.t.accepted
 
 pub link-requires-clause-linked : goal.link-requires-clause-linked
 link-requires-clause-linked c = linked_zeros _
