@@ -1,31 +1,29 @@
--- First's and Next's answer: what every case of it says; and their promises.
+-- First's and Next's answer: what it says; and their promises.
 -- Assumes nothing.
-use Rattle.std.specs.Prelude.{◌≡◌, Bool, false, List, ℕ}
+use Rattle.std.specs.Prelude.{◌≡◌, Bool, false, List, ℕ, Result}
 use Rattle.spec.specs.Records.{rules_in}
-use Rattle.spec.specs.Refusals.{reason, Said, refused, Does}
-use Rattle.spec.specs.Kits.{handed_out, first_says, first_writes, next_says, next_writes}
+use Rattle.spec.specs.Refusals.{Said, Does}
+use Rattle.spec.specs.Kits.{first_says, first_writes, next_says, next_writes}
 use Rattle.kits.specs.Order.{AnswerTo}
 use Rattle.kits.specs.Kit.{Wanted}
-use Rattle.refusals.specs.Telling.{refusal_of, done_with}
-use Rattle.lists.specs.declared.Listed.{Listed}
-use Rattle.lists.specs.declared.Listed.TheVariants as listed
+use Rattle.refusals.specs.declared.Refusal.{Refusal}
+use Rattle.refusals.specs.Telling.{said, done_with}
 
-abbrev pub listed_says : Listed → Said (Unit {0})
-listed_says listed.List = handed_out
-listed_says listed.None = refused (reason 9 0)
-listed_says (listed.Refused why) = refused (refusal_of why)
+-- that a list is handed out, and nothing besides
+abbrev pub listed_says : Result (Unit {0}) Refusal → Said (Unit {0})
+listed_says answer = said (λ handed. handed) answer
 
 -- a list is handed out, and there is nothing to count
 abbrev pub handed_numbers : Unit {0} → List ℕ
 handed_numbers _ = done_with 0
 
 -- First's promise: the answer, and every byte of the out buffer
-abbrev pub FirstDoes : (maker depot sheet out : List ℕ) → Listed → List ℕ → Type 0
+abbrev pub FirstDoes : (maker depot sheet out : List ℕ) → Result (Unit {0}) Refusal → List ℕ → Type 0
 FirstDoes maker depot sheet out answer left =
     Does (first_says maker depot sheet out) (first_writes maker depot sheet out) (listed_says answer) left
 
 -- and Next's
-abbrev pub NextDoes : (maker depot sheet given out : List ℕ) → Listed → List ℕ → Type 0
+abbrev pub NextDoes : (maker depot sheet given out : List ℕ) → Result (Unit {0}) Refusal → List ℕ → Type 0
 NextDoes maker depot sheet given out answer left =
     Does (next_says maker depot sheet given out) (next_writes maker depot sheet given out) (listed_says answer) left
 

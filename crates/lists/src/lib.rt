@@ -1,5 +1,5 @@
 // The public operations First and Next.
-#![tactic(auto)]
+#![tactic(auto, using(crate::proofs::Calls::first_order, crate::proofs::Calls::next_order))]
 
 ghost use Rattle.std.specs.Prelude.{◌≡◌, true, length};
 ghost use Rattle.spec.specs.Refusals.{is_answered};
@@ -7,99 +7,70 @@ ghost use Rattle.spec.proofs.Accepted.{AcceptedSheet};
 ghost use Rattle.refusals.specs.Telling.{numbers_of, in_order};
 ghost use Rattle.lists.specs.Answer.{listed_says, handed_numbers, FirstDoes, NextDoes, Chosen};
 
-use accept::{Form, check_next, check_order};
+use accept::{check_next, check_order};
 use records::states::OPEN;
-use refusals::{Numbers, Refusal, done, of_refusal, refused};
+use refusals::{Numbers, Refusal, done};
 use search::search;
 use sheet::{Sheet, load, store};
 use tables::Tables;
 
-#[derive(Clone, Copy)]
-pub enum Listed {
-    List,
-    None,
-    Refused(Refusal),
-}
-
-pub fn numbers(answer: Listed) -> Numbers
+pub fn numbers(answer: Result<(), Refusal>) -> Numbers
     ensures { in_order result ≡ numbers_of handed_numbers (listed_says answer) }
 {
     match answer {
-        Listed::List => done(0),
-        Listed::None => refused(9, 0),
-        Listed::Refused(why) => of_refusal(why),
+        Ok(()) => done(0),
+        Err(why) => why.into(),
     }
 }
 
 // Whether a list is handed out.
-pub fn is_list(answer: Listed) -> bool
+pub fn is_list(answer: Result<(), Refusal>) -> bool
     ensures { result ≡ is_answered (listed_says answer) }
 {
-    match answer {
-        Listed::List => true,
-        Listed::None => false,
-        Listed::Refused(_) => false,
-    }
+    answer.is_ok()
 }
 
 // What is left to do once the checks have passed: writes the first kit of the sheet, and if `after` the first strictly after the
 // given list; answers whether there is one.
-fn choose_accepted<'a>(
-    maker: &'a [u8],
-    depot: &'a [u8],
-    n: usize,
-    sheet: &[u8],
-    given: &[u8],
-    after: bool,
-    out: &mut [u8],
-) -> bool
-    requires accepted_sheet { AcceptedSheet n maker.now depot.now sheet.now }
-    requires out_len { length out.old ≡ n }
-    requires given_len { after ≡ true → length given.now ≡ n }
-    ensures { Chosen n maker.now depot.now sheet.now given.now after out.old result out.new }
+fn choose_accepted(t: Tables, sheet: &[u8], given: &[u8], after: bool, out: &mut [u8]) -> bool
+    requires accepted_sheet { AcceptedSheet t.n t.maker.now t.depot.now sheet.now }
+    requires out_len { length out.old ≡ t.n }
+    requires given_len { after ≡ true → length given.now ≡ t.n }
+    ensures { Chosen t.entry.n t.entry.maker.now t.entry.depot.now sheet.now given.now after out.old result out.new }
 {
     let mut loaded = [OPEN; 256];
     load(sheet, &mut loaded);
-    let answer = search(maker, depot, n, Sheet { states: loaded }, given, after);
+    let answer = search(
+        t.maker,
+        t.depot,
+        t.n,
+        Sheet { states: loaded },
+        given,
+        after,
+    );
     if answer.found {
         let kit = answer.sheet;
         let states = kit.states;
-        store(&states[..n], out);
+        store(&states[..t.n], out);
         return true;
     }
     false
 }
 
-// The accepted tables and the number of boxes, put together: the rest of the operation is given their parts.
-fn choose_carried<'a>(
+pub fn first<'a>(
     maker: &'a [u8],
     depot: &'a [u8],
-    n: usize,
     sheet: &[u8],
-    given: &[u8],
-    after: bool,
     out: &mut [u8],
-) -> bool
-    requires accepted_sheet { AcceptedSheet n maker.now depot.now sheet.now }
-    requires out_len { length out.old ≡ n }
-    requires given_len { after ≡ true → length given.now ≡ n }
-    ensures { Chosen n maker.now depot.now sheet.now given.now after out.old result out.new }
-{
-    let t = Tables { maker, depot, n };
-    choose_accepted(t.maker, t.depot, t.n, sheet, given, after, out)
-}
-
-pub fn first<'a>(maker: &'a [u8], depot: &'a [u8], sheet: &[u8], out: &mut [u8]) -> Listed
+) -> Result<(), Refusal>
     ensures { FirstDoes maker.now depot.now sheet.now out.old result out.new }
 {
-    let form = check_order(maker, depot, sheet, &out[..]);
-    if let Form::Refused(why) = form {
-        return Listed::Refused(why);
+    check_order(maker, depot, sheet, &out[..])?;
+    let n = sheet.len();
+    if choose_accepted(Tables { maker, depot, n }, sheet, sheet, false, out) {
+        return Ok(());
     }
-    if choose_carried(maker, depot, sheet.len(), sheet, sheet, false, out) {
-        return Listed::List;
-    }
-    Listed::None
+    Err(Refusal::NoList)
 }
 
 pub fn next<'a>(
@@ -108,15 +79,13 @@ pub fn next<'a>(
     sheet: &[u8],
     given: &[u8],
     out: &mut [u8],
-) -> Listed
+) -> Result<(), Refusal>
     ensures { NextDoes maker.now depot.now sheet.now given.now out.old result out.new }
 {
-    let form = check_next(maker, depot, sheet, given, &out[..]);
-    if let Form::Refused(why) = form {
-        return Listed::Refused(why);
+    check_next(maker, depot, sheet, given, &out[..])?;
+    let n = sheet.len();
+    if choose_accepted(Tables { maker, depot, n }, sheet, given, true, out) {
+        return Ok(());
     }
-    if choose_carried(maker, depot, sheet.len(), sheet, given, true, out) {
-        return Listed::List;
-    }
-    Listed::None
+    Err(Refusal::NoList)
 }

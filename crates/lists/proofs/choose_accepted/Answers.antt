@@ -15,7 +15,7 @@ use Rattle.lists.proofs.choose_accepted.Goals as goal
 pub search-answer-requires : goal.search-answer-requires
 search-answer-requires c =
     let a = c.args in
-    call_ready a.n a.maker.now a.depot.now a.sheet.now a.given.now a.after c.requires.accepted_sheet c.requires.given_len
+    call_ready a.t.n a.t.maker.now a.t.depot.now a.sheet.now a.given.now a.after c.requires.accepted_sheet c.requires.given_len
     c.load.new.states c.load.ensures
 
 -- a kit that is found is of the sheet's length
@@ -25,34 +25,34 @@ slice_bounds-states-end c =
     let l = c.search-answer.result.sheet.states in
     omega (
       arith,
-      found_size a.maker.now a.depot.now c.load.new.states a.given.now a.after a.n c.search-answer.result.found (take a.n l)
+      found_size a.t.maker.now a.t.depot.now c.load.new.states a.given.now a.after a.t.n c.search-answer.result.found (take a.t.n l)
           c.if-answer.true c.search-answer.ensures,
-      length-take a.n l,
+      length-take a.t.n l,
     )
 
 pub slice_bounds-store-end : goal.slice_bounds-store-end
 slice_bounds-store-end c =
     let a = c.args in
     sym
-    (found_size a.maker.now a.depot.now c.load.new.states a.given.now a.after a.n c.search-answer.result.found
-    (take a.n c.search-answer.result.sheet.states) c.if-answer.true c.search-answer.ensures)
+    (found_size a.t.maker.now a.t.depot.now c.load.new.states a.given.now a.after a.t.n c.search-answer.result.found
+    (take a.t.n c.search-answer.result.sheet.states) c.if-answer.true c.search-answer.ensures)
 
 pub store-requires : goal.store-requires
 store-requires c =
     let a = c.args in
     c.requires.out_len
     ∙ sym
-    (found_size a.maker.now a.depot.now c.load.new.states a.given.now a.after a.n c.search-answer.result.found
-    (take a.n c.search-answer.result.sheet.states) c.if-answer.true c.search-answer.ensures)
+    (found_size a.t.maker.now a.t.depot.now c.load.new.states a.given.now a.after a.t.n c.search-answer.result.found
+    (take a.t.n c.search-answer.result.sheet.states) c.if-answer.true c.search-answer.ensures)
 
 -- what the search found is the answer for the sheet
 pub returns-then-answer : goal.returns-then-answer
 returns-then-answer c =
     let a = c.args in
-    let Answers : Bool → List ℕ → Type 0 = λ found l. AnswerTo (Wanted (rules_in a.maker.now a.depot.now) a.n a.sheet.now a.after a.given.now) found l in
-    let found : Answers c.search-answer.result.found (take a.n c.search-answer.result.sheet.states) =
-    call_answer a.n a.maker.now a.depot.now a.sheet.now a.given.now a.after c.requires.accepted_sheet c.load.new.states c.load.ensures
-    c.search-answer.result.found (take a.n c.search-answer.result.sheet.states) c.search-answer.ensures in
+    let Answers : Bool → List ℕ → Type 0 = λ found l. AnswerTo (Wanted (rules_in a.t.maker.now a.t.depot.now) a.t.n a.sheet.now a.after a.given.now) found l in
+    let found : Answers c.search-answer.result.found (take a.t.n c.search-answer.result.sheet.states) =
+    call_answer a.t.n a.t.maker.now a.t.depot.now a.sheet.now a.given.now a.after c.requires.accepted_sheet c.load.new.states c.load.ensures
+    c.search-answer.result.found (take a.t.n c.search-answer.result.sheet.states) c.search-answer.ensures in
     record {
       answer = subst (Answers true) (sym c.store.ensures) (rw c.if-answer.true at found);
       kept = λ e. absurd (true≢false e);
@@ -64,7 +64,7 @@ returns c =
     record {
       answer =
           rw c.if-answer.false
-          at (call_answer a.n a.maker.now a.depot.now a.sheet.now a.given.now a.after c.requires.accepted_sheet c.load.new.states
-          c.load.ensures c.search-answer.result.found (take a.n c.search-answer.result.sheet.states) c.search-answer.ensures);
+          at (call_answer a.t.n a.t.maker.now a.t.depot.now a.sheet.now a.given.now a.after c.requires.accepted_sheet c.load.new.states
+          c.load.ensures c.search-answer.result.found (take a.t.n c.search-answer.result.sheet.states) c.search-answer.ensures);
       kept = λ e. refl;
     }

@@ -1,52 +1,17 @@
 -- `lists::next` meets its contract: the checks come first, and what comes after them is Next's.
 -- Assumes nothing.
-use mathlib.Core.Path.{◌≡◌, sym, ap, subst}
-use Rattle.spec.specs.Refusals.{passed, judge, next_checks}
-use Rattle.spec.specs.Kits.{head_of, hands_out, kits_after, next_says, next_writes}
-use Rattle.spec.proofs.Judge.{does_refused}
-use Rattle.spec.proofs.Accepted.{next_accepted}
-use Rattle.lists.specs.declared.Listed.{Listed}
-use Rattle.lists.specs.Answer.{NextDoes}
-use Rattle.lists.proofs.Calls.{listed_as, next_does}
+use mathlib.Core.Bool.{true, false}
+use Rattle.std.proofs.lemmas.Result.{err_from_is_err_and}
+use Rattle.lists.proofs.Calls.{next_refused, next_does}
 use Rattle.lists.proofs.next.Goals as goal
 
-pub returns-in-Refused : goal.returns-in-Refused
-unfolding next_says next_writes
-returns-in-Refused c =
-    let checked = c in
-    let a = (checked).args in
-    let all = kits_after a.maker.now a.depot.now a.sheet.now a.given.now in
-    does_refused (next_checks a.maker.now a.depot.now a.sheet.now a.given.now a.out.now) (hands_out all) (head_of all) a.out.now
-    (sym c.in-Refused.ensures)
+pub returns-in_err-check_next : goal.returns-in_err-check_next
+returns-in_err-check_next c =
+    let p = err_from_is_err_and c.from_residual.result c.from_residual.ensures.1 in
+    rw (p.1, p.2) (next_refused _ _ _ _ c.args.out.now _ c.in_err-check_next.ensures)
 
-pub choose_carried-requires : goal.choose_carried-requires
-choose_carried-requires c =
-    let a = (c).args in
-    let known = next_accepted a.maker.now a.depot.now a.sheet.now a.given.now a.out.now ((let h : let a = (c).args in
-    judge (next_checks a.maker.now a.depot.now a.sheet.now a.given.now a.out.now) passed ≡ passed =
-    sym c.in_default.ensures in h)) in
-    record { accepted_sheet = known.order; out_len = known.out_length; given_len = λ e. known.given_length }
-
-pub returns-then-choose_carried : goal.returns-then-choose_carried
-returns-then-choose_carried c =
-    let chosen = c in
-    let told = chosen in
-    let a = (told).args in
-    let left = chosen.choose_carried.new.out in
-    subst (λ (r : Listed). NextDoes a.maker.now a.depot.now a.sheet.now a.given.now a.out.now r left) (ap listed_as c.if-choose_carried.true)
-    (next_does a.maker.now a.depot.now a.sheet.now a.given.now a.out.now ((let h : let a = (told).args in
-    judge (next_checks a.maker.now a.depot.now a.sheet.now a.given.now a.out.now) passed ≡ passed =
-    sym c.in_default.ensures in h)) chosen.choose_carried.result left
-    chosen.choose_carried.ensures)
+pub returns-then-choose_accepted : goal.returns-then-choose_accepted
+returns-then-choose_accepted c = next_does _ _ _ _ _ c.in_ok-check_next.ensures true _ c.if-choose_accepted.ensures
 
 pub returns : goal.returns
-returns c =
-    let chosen = c in
-    let told = chosen in
-    let a = (told).args in
-    let left = chosen.choose_carried.new.out in
-    subst (λ (r : Listed). NextDoes a.maker.now a.depot.now a.sheet.now a.given.now a.out.now r left) (ap listed_as c.if-choose_carried.false)
-    (next_does a.maker.now a.depot.now a.sheet.now a.given.now a.out.now ((let h : let a = (told).args in
-    judge (next_checks a.maker.now a.depot.now a.sheet.now a.given.now a.out.now) passed ≡ passed =
-    sym c.in_default.ensures in h)) chosen.choose_carried.result left
-    chosen.choose_carried.ensures)
+returns c = next_does _ _ _ _ _ c.in_ok-check_next.ensures false _ c.if-choose_accepted.ensures
