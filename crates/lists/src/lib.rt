@@ -1,10 +1,12 @@
 // The public operations First and Next.
 #![tactic(auto, using(crate::proofs::Calls::first_order, crate::proofs::Calls::next_order))]
 
-ghost use Rattle.std.specs.Prelude.{◌≡◌, true, length};
+ghost use Rattle.std.specs.Prelude.{◌≡◌, length, IfSome};
+ghost use Rattle.spec.specs.Records.{rules_in};
 ghost use Rattle.spec.specs.Refusals.{is_answered};
 ghost use Rattle.spec.proofs.Accepted.{AcceptedSheet};
 ghost use Rattle.refusals.specs.Telling.{numbers_of, in_order};
+ghost use Rattle.search.specs.Look.{Asks};
 ghost use Rattle.lists.specs.Answer.{listed_says, handed_numbers, FirstDoes, NextDoes, Chosen};
 
 use accept::{check_next, check_order};
@@ -30,31 +32,26 @@ pub fn is_list(answer: Result<(), Refusal>) -> bool
     answer.is_ok()
 }
 
-// What is left to do once the checks have passed: writes the first kit of the sheet, and if `after` the first strictly after the
-// given list; answers whether there is one.
-fn choose_accepted(t: Tables, sheet: &[u8], given: &[u8], after: bool, out: &mut [u8]) -> bool
+// What is left to do once the checks have passed: writes the first kit of the sheet, and where a list is given, the first strictly
+// after it.
+fn choose_accepted(
+    t: Tables,
+    sheet: &[u8],
+    given: Option<&[u8]>,
+    out: &mut [u8],
+) -> Result<(), Refusal>
     requires accepted_sheet { AcceptedSheet t.n t.maker.now t.depot.now sheet.now }
     requires out_len { length out.old ≡ t.n }
-    requires given_len { after ≡ true → length given.now ≡ t.n }
-    ensures { Chosen t.entry.n t.entry.maker.now t.entry.depot.now sheet.now given.now after out.old result out.new }
+    requires given_len { IfSome given (λ list. length list.now ≡ t.n) }
+    ensures { Chosen (Asks (rules_in t.entry.maker.now t.entry.depot.now) t.entry.n sheet.now given.entry) out.old result out.new }
 {
-    let mut loaded = [OPEN; 256];
-    load(sheet, &mut loaded);
-    let answer = search(
-        t.maker,
-        t.depot,
-        t.n,
-        Sheet { states: loaded },
-        given,
-        after,
-    );
-    if answer.found {
-        let kit = answer.sheet;
-        let states = kit.states;
-        store(&states[..t.n], out);
-        return true;
-    }
-    false
+    let mut states = [OPEN; 256];
+    load(sheet, &mut states);
+    let Some(kit) = search(t, Sheet { states }, given) else {
+        return Err(Refusal::NoList);
+    };
+    store(&kit.states[..t.n], out);
+    Ok(())
 }
 
 pub fn first<'a>(
@@ -67,10 +64,7 @@ pub fn first<'a>(
 {
     check_order(maker, depot, sheet, &out[..])?;
     let n = sheet.len();
-    if choose_accepted(Tables { maker, depot, n }, sheet, sheet, false, out) {
-        return Ok(());
-    }
-    Err(Refusal::NoList)
+    choose_accepted(Tables { maker, depot, n }, sheet, None, out)
 }
 
 pub fn next<'a>(
@@ -84,8 +78,5 @@ pub fn next<'a>(
 {
     check_next(maker, depot, sheet, given, &out[..])?;
     let n = sheet.len();
-    if choose_accepted(Tables { maker, depot, n }, sheet, given, true, out) {
-        return Ok(());
-    }
-    Err(Refusal::NoList)
+    choose_accepted(Tables { maker, depot, n }, sheet, Some(given), out)
 }
