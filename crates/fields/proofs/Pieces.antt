@@ -1,42 +1,16 @@
--- The fields of a line from a place on, one after the other; and a part found again in the buffer that holds it.
+-- The bytes of a field, and a part found again in the buffer that holds it.
 -- Assumes nothing.
 use mathlib.Core.Path.{◌≡◌, refl, sym, ◌∙◌, ap}
-use mathlib.Core.Bool.{cond}
 use mathlib.Core.List.{List, [], ◌∷◌, ◌++◌, append_assoc}
 use Prim.Native.Nat.{ℕ, zero, suc, ◌+◌, ◌*◌, ◌-◌, ◌≤◌, ◌<◌}
 use native.Mathlib.Omega.{arith}
 use native.Mathlib.Nat.{add-sub_cancel_left}
 use native.Mathlib.Numerals.{add-one}
 use native.Mathlib.Decide.{dec_lt}
-use lib.Dec.{leb}
 use lib.ListN.{length, get_or, take, drop, length-take, take-append-drop}
 use lib.Seq.{take_at, drop_at}
-use borrow.Author.Tests.{le-leb, lt-leb}
-use Rattle.fields.specs.Cuts.{until}
-use Rattle.fields.specs.Fields.{fields_of, field_at, bytes_in}
+use Rattle.fields.specs.Fields.{bytes_in}
 use Rattle.fields.specs.Ends.{part_in, EndsInOrder}
-use Rattle.fields.proofs.Splitting.{end_below, split_more, split_last}
-
--- the fields from a place on; behind the end of the line there are none
-abbrev pub fields_from : List ℕ → ℕ → List (List ℕ)
-fields_from line start = cond (leb start (length line)) (fields_of (drop start line)) []
-
-module _ (line : List ℕ) (start : ℕ) where
-  pub fields_some : start ≤ length line → fields_from line start ≡ fields_of (drop start line)
-  fields_some h = rw (le-leb start (length line) h)
-
-  pub fields_none : length line < start → fields_from line start ≡ []
-  fields_none h = rw (lt-leb start (length line) h)
-
-  pub fields_next : start ≤ length line → (end : ℕ) → end ≡ start + until 32 (drop start line) →
-      fields_of (drop start line) ≡ field_at line start ∷ fields_from line (end + 1)
-  fields_next within end stop = at (dec_lt end (length line))
-    where
-      at : Dec (end < length line) → fields_of (drop start line) ≡ field_at line start ∷ fields_from line (end + 1)
-      at (yes h) = split_more 32 line start end within stop h ∙ rw (le-leb (end + 1) (length line) (omega arith))
-      at (no h) =
-          split_last 32 line start end within stop (omega (arith, end_below 32 line start end within stop))
-          ∙ rw (lt-leb (end + 1) (length line) (omega arith))
 
 -- two characters a byte
 pub bytes_half : (f : List ℕ) → 2 * length (bytes_in f) ≤ length f

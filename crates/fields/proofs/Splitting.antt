@@ -3,9 +3,8 @@
 use mathlib.Core.Path.{◌≡◌, refl, sym, ◌∙◌, ap}
 use mathlib.Core.Bool.{Bool, true, false, cond}
 use mathlib.Core.List.{List, [], ◌∷◌, ◌++◌, append-nil}
-use Prim.Native.Nat.{ℕ, suc, ◌+◌, ◌-◌, ◌≤◌, ◌<◌}
+use Prim.Native.Nat.{ℕ, suc, ◌+◌, ◌≤◌, ◌<◌}
 use native.Mathlib.Omega.{arith}
-use native.Mathlib.Nat.{add-sub_cancel_left}
 use native.Mathlib.Decide.{dec_lt}
 use lib.Dec.{eqb}
 use lib.ListN.{length, get_or, take, drop, length-drop}
@@ -61,11 +60,7 @@ module _ (mark : ℕ) where
     pub end_below : end ≤ length l
     end_below = omega (arith, until_below (drop from l), length-drop from l)
 
-    pub piece_part : take (end - from) (drop from l) ≡ piece_from mark l from
-    piece_part =
-        ap (λ (k : ℕ). take k (drop from l)) (ap (λ (k : ℕ). k - from) stop ∙ add-sub_cancel_left from (until mark (drop from l)))
-
-    pub split_more : end < length l → cut_at mark (drop from l) ≡ piece_from mark l from ∷ cut_at mark (drop (end + 1) l)
+    split_more : end < length l → cut_at mark (drop from l) ≡ piece_from mark l from ∷ cut_at mark (drop (end + 1) l)
     split_more h =
         let after : from + suc (until mark (drop from l)) ≡ end + 1 = omega arith in
         ap (cut_at mark) (sym (append-nil (drop from l)))
@@ -73,7 +68,7 @@ module _ (mark : ℕ) where
         ∙ ap (λ (r : List ℕ). piece_from mark l from ∷ cut_at mark r)
         (append-nil _ ∙ drop-drop (suc (until mark (drop from l))) from l ∙ ap (λ (k : ℕ). drop k l) after)
 
-    pub split_last : end ≡ length l → cut_at mark (drop from l) ≡ piece_from mark l from ∷ []
+    split_last : end ≡ length l → cut_at mark (drop from l) ≡ piece_from mark l from ∷ []
     split_last e =
         let all : until mark (drop from l) ≡ length (drop from l) = omega (arith, length-drop from l) in
         ap (cut_at mark) (sym (append-nil (drop from l)))

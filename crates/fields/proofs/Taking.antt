@@ -1,24 +1,24 @@
 -- Fields decoded one after the other into one buffer: their parts stand at its front, and the ends say where.
 -- Assumes nothing.
 use mathlib.Core.Path.{◌≡◌, refl, sym, ◌∙◌, ap}
-use mathlib.Core.Bool.{true}
+use mathlib.Core.Bool.{true, ◌&&◌}
 use mathlib.Core.List.{List, [], ◌∷◌, ◌++◌, append_assoc, append-nil}
 use Prim.Native.Nat.{ℕ, zero, suc, ◌+◌, ◌*◌, ◌-◌, ◌≤◌, ◌<◌}
 use native.Mathlib.Omega.{arith}
 use native.Mathlib.Numerals.{add-one}
 use native.Mathlib.Decide.{dec_lt, ℕ_discrete}
-use lib.ListN.{length, get_or, set, take, drop, length-append, length-set, get_or-eq_default}
+use lib.Dec.{T}
+use lib.ListN.{length, get_or, set, take, drop, length-append, length-drop, length-set, get_or-eq_default}
 use lib.Seq.{take_all, length-take-le, get_or-set_same, get_or-set_other}
 use Rattle.lemmas.specs.Lists.{all}
 use Rattle.lemmas.proofs.Tests.{T_true, true_T, both_left, both_right}
 use Rattle.text.specs.Spelling.{spelt}
 use Rattle.text.specs.Putting.{Put}
 use Rattle.text.proofs.Puts.{put_length, put_front}
-use Rattle.fields.specs.Cuts.{until}
-use Rattle.fields.specs.Fields.{fields_of, field_at, is_field, bytes_in, part}
+use Rattle.fields.specs.Fields.{fields_of, is_field, bytes_in, part}
 use Rattle.fields.specs.Ends.{part_in, EndsInOrder, RightFields, PartsTaken}
-use Rattle.fields.proofs.Splitting.{end_below, piece_length}
-use Rattle.fields.proofs.Pieces.{fields_from, fields_some, fields_none, fields_next, bytes_half, piece}
+use Rattle.fields.proofs.Scanning.{width, cut_width}
+use Rattle.fields.proofs.Pieces.{bytes_half, piece}
 
 -- the bytes that fields give, one after the other
 abbrev pub fields_bytes : List (List ℕ) → List ℕ
@@ -90,40 +90,38 @@ none_left [] (suc k) e = refl
 none_left (g ∷ fs) zero e = cc
 none_left (g ∷ fs) (suc k) e = none_left fs k e
 
--- k fields are taken: the others start at `start`, and the parts end at `at`
-pub record Taking (line : List ℕ) (fs : List (List ℕ)) (size : ℕ) (bytes ends : List ℕ) (start at k : ℕ) : Type 0 where
+-- k fields are taken, and `left` are the others: the parts end at `at`
+pub record Taking (line : List ℕ) (fs : List (List ℕ)) (size : ℕ) (bytes ends : List ℕ) (left : List (List ℕ)) (at k : ℕ) : Type 0 where
   pub most : k ≤ 8
   pub same : length bytes ≡ size
   pub nine : length ends ≡ 9
-  pub rest : drop k fs ≡ fields_from line start
-  pub right : all is_field (drop k fs) ≡ true
-  pub before : 2 * at ≤ start
-  pub half : 2 * at ≤ length line
+  pub rest : drop k fs ≡ left
+  pub right : all is_field left ≡ true
+  pub before : 2 * at + width left ≤ length line
   pub front : take at bytes ≡ fields_bytes (take k fs)
   pub marks : (j : ℕ) → j ≤ k → get_or ends j 0 ≡ end_of fs j
 
 module _ {line : List ℕ} {from : ℕ} (h : RightFields line from) where
   pub taking_start : (bytes ends : List ℕ) → length ends ≡ 9 → get_or ends 0 0 ≡ 0 →
-      Taking line (fields_of (drop from line)) (length bytes) bytes ends from 0 0
+      Taking line (fields_of (drop from line)) (length bytes) bytes ends (fields_of (drop from line)) 0 0
   unfolding end_of
   taking_start bytes ends nine zeros =
       record {
         most = omega arith;
         same = refl;
         nine = nine;
-        rest = sym (fields_some line from h.within);
+        rest = refl;
         right = h.right;
-        before = omega arith;
-        half = omega arith;
+        before = omega (arith, cut_width 32 (drop from line), length-drop from line);
         front = refl;
         marks = λ j none. let first : j ≡ 0 = omega arith in rw first zeros;
       }
 
-module _ {line : List ℕ} {fs : List (List ℕ)} {size : ℕ} {bytes ends : List ℕ} {start at k : ℕ}
-    (t : Taking line fs size bytes ends start at k) (room : length line ≤ 2 * size) where
+module _ {line : List ℕ} {fs : List (List ℕ)} {size : ℕ} {bytes ends : List ℕ} {left : List (List ℕ)} {at k : ℕ}
+    (t : Taking line fs size bytes ends left at k) (room : length line ≤ 2 * size) where
   place : at ≡ end_of fs k
   unfolding end_of
-  place = sym (length-take-le at bytes (omega (arith, t.half, t.same))) ∙ ap length t.front
+  place = sym (length-take-le at bytes (omega (arith, t.before, t.same))) ∙ ap length t.front
 
   -- an end more is noted
   marked : (next : ℕ) → next ≡ end_of fs (suc k) → k < 8 → (j : ℕ) → j ≤ suc k → get_or (set ends (suc k) next) j 0 ≡ end_of fs j
@@ -134,82 +132,68 @@ module _ {line : List ℕ} {fs : List (List ℕ)} {size : ℕ} {bytes ends : Lis
       at_mark (no other) = get_or-set_other ends (suc k) j next 0 other ∙ t.marks j (omega arith)
 
   -- no field is left
-  pub taking_none : k < 8 → length line < start → Taking line fs size bytes (set ends (k + 1) at) start at (k + 1)
+  pub taking_none : k < 8 → left ≡ [] → Taking line fs size bytes (set ends (k + 1) at) left at (k + 1)
   unfolding end_of
-  taking_none more behind =
-      let left : drop k fs ≡ [] = t.rest ∙ fields_none line start behind in
+  taking_none more none =
       rw add-one
       (record {
         most = omega arith;
         same = t.same;
         nine = length-set ends (suc k) at ∙ t.nine;
-        rest = none_left fs k left ∙ sym (fields_none line start behind);
-        right = rw (none_left fs k left);
+        rest = none_left fs k (t.rest ∙ none) ∙ sym none;
+        right = t.right;
         before = t.before;
-        half = t.half;
-        front = t.front ∙ ap fields_bytes (sym (none_taken fs k left));
-        marks = marked at (place ∙ ap (λ (l : List (List ℕ)). length (fields_bytes l)) (sym (none_taken fs k left))) more;
+        front = t.front ∙ ap fields_bytes (sym (none_taken fs k (t.rest ∙ none)));
+        marks = marked at (place ∙ ap (λ (l : List (List ℕ)). length (fields_bytes l)) (sym (none_taken fs k (t.rest ∙ none)))) more;
       })
 
   -- the next field
-  module _ (inside : start ≤ length line) where
-    next_field : all is_field (fields_of (drop start line)) ≡ true
-    next_field = ap (all is_field) (sym (t.rest ∙ fields_some line start inside)) ∙ t.right
+  module _ (f : List ℕ) (others : List (List ℕ)) (some : left ≡ f ∷ others) where
+    both_right_fields : T (is_field f && all is_field others)
+    both_right_fields = T_true (ap (all is_field) (sym some) ∙ t.right)
 
-    module _ (end : ℕ) (stop : end ≡ start + until 32 (drop start line)) where
-      left_fields : drop k fs ≡ field_at line start ∷ fields_from line (end + 1)
-      left_fields = t.rest ∙ fields_some line start inside ∙ fields_next line start inside end stop
+    pub taking_field : is_field f ≡ true
+    taking_field = true_T _ (both_left (is_field f) (all is_field others) both_right_fields)
 
-      pub taking_field : is_field (field_at line start) ≡ true
-      taking_field =
-          true_T _
-          (both_left (is_field (field_at line start)) (all is_field (fields_from line (end + 1)))
-          (T_true (ap (all is_field) (sym left_fields) ∙ t.right)))
+    wide : 2 * at + (length f + width others) ≤ length line
+    wide = omega (arith, t.before, ap width some)
 
-      pub taking_room : 2 * at + length (field_at line start) ≤ 2 * length bytes
-      taking_room =
-          omega (arith, t.before, t.same, piece_length 32 line start inside, end_below 32 line start end inside stop)
+    pub taking_room : 2 * at + length f ≤ 2 * length bytes
+    taking_room = omega (arith, wide, t.same)
 
-      pub taking_next : {new : List ℕ} {next : ℕ} → k < 8 → Put bytes at (bytes_in (field_at line start)) new next →
-          Taking line fs size new (set ends (k + 1) next) (end + 1) next (k + 1)
-      unfolding end_of
-      taking_next {new} {next} more put =
-          rw add-one
-          (record {
-            most = omega arith;
-            same = put_length put ∙ t.same;
-            nine = length-set ends (suc k) next ∙ t.nine;
-            rest = next_left fs k left_fields;
-            right =
-                ap (all is_field) (next_left fs k left_fields)
-                ∙ true_T _
-                (both_right (is_field (field_at line start)) (all is_field (fields_from line (end + 1)))
-                (T_true (ap (all is_field) (sym left_fields) ∙ t.right)));
-            before = omega (arith, halved);
-            half = omega (arith, halved, end_below 32 line start end inside stop);
-            front = fronted;
-            marks =
-                marked next
-                (sym (length-take-le next new (omega (arith, halved, end_below 32 line start end inside stop, put_length put, t.same)))
-                ∙ ap length fronted)
-                more;
-          })
-        where
-          halved : 2 * next ≤ end
-          halved =
-              omega (arith, t.before, put.after, bytes_half (field_at line start), piece_length 32 line start inside)
+    pub taking_next : {new : List ℕ} {next : ℕ} → k < 8 → Put bytes at (bytes_in f) new next →
+        Taking line fs size new (set ends (k + 1) next) others next (k + 1)
+    unfolding end_of
+    taking_next {new} {next} more put =
+        rw add-one
+        (record {
+          most = omega arith;
+          same = put_length put ∙ t.same;
+          nine = length-set ends (suc k) next ∙ t.nine;
+          rest = next_left fs k (t.rest ∙ some);
+          right = true_T _ (both_right (is_field f) (all is_field others) both_right_fields);
+          before = omega (arith, halved, wide);
+          front = fronted;
+          marks =
+              marked next
+              (sym (length-take-le next new (omega (arith, halved, wide, put_length put, t.same))) ∙ ap length fronted)
+              more;
+        })
+      where
+        halved : 2 * next ≤ 2 * at + length f
+        halved = omega (arith, put.after, bytes_half f)
 
-          fronted : take next new ≡ fields_bytes (take (suc k) fs)
-          fronted =
-              put_front (omega (arith, put.after, halved, end_below 32 line start end inside stop, t.same)) put
-              ∙ ap (λ (l : List ℕ). l ++ bytes_in (field_at line start)) t.front
-              ∙ ap (λ (l : List ℕ). fields_bytes (take k fs) ++ l) (sym (append-nil (bytes_in (field_at line start))))
-              ∙ sym (bytes_append (take k fs) (field_at line start ∷ []))
-              ∙ ap fields_bytes (sym (next_taken fs k left_fields))
+        fronted : take next new ≡ fields_bytes (take (suc k) fs)
+        fronted =
+            put_front (omega (arith, put.after, halved, wide, t.same)) put
+            ∙ ap (λ (l : List ℕ). l ++ bytes_in f) t.front
+            ∙ ap (λ (l : List ℕ). fields_bytes (take k fs) ++ l) (sym (append-nil (bytes_in f)))
+            ∙ sym (bytes_append (take k fs) (f ∷ []))
+            ∙ ap fields_bytes (sym (next_taken fs k (t.rest ∙ some)))
 
 -- eight are taken: those are all
-module _ {line : List ℕ} {from : ℕ} (h : RightFields line from) {size : ℕ} {bytes ends : List ℕ} {start at : ℕ}
-    (t : Taking line (fields_of (drop from line)) size bytes ends start at 8) (room : length line ≤ 2 * size) where
+module _ {line : List ℕ} {from : ℕ} (h : RightFields line from) {size : ℕ} {bytes ends : List ℕ} {left : List (List ℕ)} {at : ℕ}
+    (t : Taking line (fields_of (drop from line)) size bytes ends left at 8) (room : length line ≤ 2 * size) where
   fs : List (List ℕ)
   fs = fields_of (drop from line)
 
@@ -232,7 +216,7 @@ module _ {line : List ℕ} {from : ℕ} (h : RightFields line from) {size : ℕ}
       }
     where
       fits : at ≤ length bytes
-      fits = omega (arith, t.half, t.same)
+      fits = omega (arith, t.before, t.same)
 
   taken_parts : PartsTaken line from bytes ends
   unfolding fs end_of
@@ -240,7 +224,7 @@ module _ {line : List ℕ} {from : ℕ} (h : RightFields line from) {size : ℕ}
       record {
         ordered = taken_order;
         parts = λ k. at_part k (dec_lt k 8);
-        half = omega (arith, t.half, t.marks 8 (omega arith), place t room);
+        half = omega (arith, t.before, t.marks 8 (omega arith), place t room);
       }
     where
       at_part : (k : ℕ) → Dec (k < 8) → part_in bytes ends k ≡ part (fields_of (drop from line)) k
@@ -250,10 +234,11 @@ module _ {line : List ℕ} {from : ℕ} (h : RightFields line from) {size : ℕ}
       at_part k (no past_all) =
           let past : get_or ends (k + 1) 0 ≡ 0 = get_or-eq_default ends 0 (omega (arith, t.nine)) in
           let none : get_or ends (k + 1) 0 - get_or ends k 0 ≡ 0 = omega arith in
-          let missing : get_or (fields_of (drop from line)) k [] ≡ [] = get_or-eq_default (fields_of (drop from line)) [] (omega (arith, h.few)) in
+          let missing : get_or (fields_of (drop from line)) k [] ≡ [] =
+          get_or-eq_default (fields_of (drop from line)) [] (omega (arith, h.few)) in
           rw (none, missing)
 
-pub all_taken : {line : List ℕ} {from size : ℕ} {bytes ends : List ℕ} {start at k : ℕ} → RightFields line from →
-    Taking line (fields_of (drop from line)) size bytes ends start at k → length line ≤ 2 * size → 8 ≤ k →
+pub all_taken : {line : List ℕ} {from size : ℕ} {bytes ends : List ℕ} {left : List (List ℕ)} {at k : ℕ} → RightFields line from →
+    Taking line (fields_of (drop from line)) size bytes ends left at k → length line ≤ 2 * size → 8 ≤ k →
     PartsTaken line from bytes ends
 all_taken {k} h t room last = let eight : k ≡ 8 = omega (arith, t.most) in taken_parts h (rw eight at t) room

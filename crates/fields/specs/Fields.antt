@@ -6,15 +6,11 @@ use Rattle.lemmas.specs.Lists.{all}
 use Rattle.lemmas.specs.Lowest.{lowest}
 use Rattle.lemmas.specs.Same.{same_list}
 use Rattle.text.specs.Spelling.{ascii}
-use Rattle.fields.specs.Cuts.{cut_at, piece_from}
+use Rattle.fields.specs.Cuts.{cut_at}
 
 -- the fields of a line, parted by one space (32)
 abbrev pub fields_of : List ℕ → List (List ℕ)
 fields_of line = cut_at 32 line
-
--- the field that starts at a place of the line
-abbrev pub field_at : List ℕ → ℕ → List ℕ
-field_at line from = piece_from 32 line from
 
 -- the value of a lowercase hexadecimal digit: its place among the sixteen, and 16 where it is none of them
 unfoldable pub digit_of : ℕ → ℕ

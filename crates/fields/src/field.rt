@@ -37,7 +37,7 @@ pub fn are_fields(line: &[u8], from: usize) -> bool
     line[from..].split(|c| *c == SPACE).all(is_field)
 }
 
-// Puts the bytes of a field at `at`: two digits a byte, and none for a dot.
+// Puts the bytes of a field at `at`: two digits a byte, and none for a dot. In a right field what stands in pairs is digits.
 pub fn decode(field: &[u8], bytes: &mut [u8], at: usize) -> usize
     requires field_value { is_field field.now ≡ true }
     requires field_bound { 2 * at + length field.now ≤ 2 * length bytes.old }

@@ -2,7 +2,6 @@
 ghost use Rattle.std.specs.Prelude.{◌≡◌, ◌+◌, ◌*◌, ◌≤◌, ◌<◌, length, get_or};
 ghost use Rattle.fields.specs.Ends.{part_in, EndsInOrder, RightFields, PartsTaken, PartCopied, number_in};
 
-use crate::cut::end_of;
 use crate::field::{SPACE, decode};
 use text::put_bytes;
 
@@ -31,21 +30,18 @@ impl<'a> Parts<'a> {
     }
 }
 
-// Decodes the fields from `from` on, eight at most. A field starts inside the line or at its end, so a start behind that says that
-// no field is left, and the parts that follow are empty.
+// Decodes the fields from `from` on, eight at most. The parts of those that are not there are empty.
 pub fn take_parts<'a>(line: &[u8], from: usize, bytes: &'a mut [u8]) -> Parts<'a>
     requires right_fields { RightFields line.now from }
     requires line_len_bound { length line.now ≤ 2 * length bytes.old }
     ensures { PartsTaken line.now from result.bytes.now result.ends }
 {
+    let mut fields = line[from..].split(|c| *c == SPACE);
     let mut ends = [0; 9];
-    let mut start = from;
     let mut at = 0;
     for k in 0..8 {
-        if start <= line.len() {
-            let end = end_of(line, start, SPACE);
-            at = decode(&line[start..end], bytes, at);
-            start = end + 1;
+        if let Some(field) = fields.next() {
+            at = decode(field, bytes, at);
         }
         ends[k + 1] = at;
     }
