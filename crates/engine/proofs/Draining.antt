@@ -3,12 +3,11 @@
 use mathlib.Core.Path.{◌≡◌, sym, subst, ◌∙◌}
 use mathlib.Core.Logic.{⊎_elim}
 use mathlib.Core.List.{List}
-use Prim.Native.Nat.{ℕ, ◌+◌, ◌≤◌, ◌<◌}
+use Prim.Native.Nat.{ℕ, ◌+◌, ◌<◌}
 use native.Mathlib.Omega.{arith}
 use native.Mathlib.Decide.{ℕ_discrete}
 use lib.ListN.{length, get_or, replicate}
 use Rattle.spec.specs.Records.{Rec}
-use Rattle.theory.specs.Steps.{Stable}
 use Rattle.engine.specs.Moves.{Cells, AllStable}
 use Rattle.index.specs.Whole.{Indexed}
 use Rattle.index.specs.declared.Index.{Index}
@@ -20,13 +19,6 @@ use Rattle.engine.proofs.Settled.{cells_read}
 use Rattle.engine.proofs.Waiting.{stable_waits, waits_from}
 
 module _ {qs : List Rec} {t queue : List ℕ} {head tail : ℕ} (waits : AllWait qs t queue head tail) where
-  pub drain_end : tail ≤ head → AllStable qs t
-  drain_end none q m = at (waits q m)
-    where
-      at : Waits q t queue head tail → Stable q t
-      at (rests stable) = stable
-      at (named b names has) = absurd (omega (arith, has.after, has.before))
-
   pub drain_step : {u queue' : List ℕ} {tail' : ℕ} → head < tail → VisitedTo qs (get_or queue head 0) t u queue queue' tail tail' →
       AllWait qs u queue' (head + 1) tail'
   drain_step {u} {queue'} {tail'} below visited q m = at (waits q m)

@@ -29,7 +29,7 @@ module _ {q : Rec} {qs : List Rec} (member : Memᴰ q qs) where
         sheet = grown.sheet;
       }
 
-  clash_more : (s : List ℕ) → SomeClash (q ∷ []) s → SomeClash qs s
+  pub clash_more : (s : List ℕ) → SomeClash (q ∷ []) s → SomeClash qs s
   clash_more s c =
       let more = closure_mono (q ∷ []) qs s s one_of (λ d state k. k) in
       (c.0, (more c.0 false c.1.0, more c.0 true c.1.1))
@@ -64,6 +64,3 @@ module _ {qs : List Rec} {s t queue queue' : List ℕ} {tail tail' : ℕ} (ran :
 module _ {q : Rec} {qs : List Rec} (member : Memᴰ q qs) where
   pub fired_ran : {s t queue queue' : List ℕ} {tail tail' : ℕ} → Fired q s t queue queue' tail tail' → Ran qs s t queue queue' tail tail'
   fired_ran fired = record { grown = grown_more member fired.grown; queued = fired.queued }
-
-  pub fired_clash : (s : List ℕ) → SomeClash (q ∷ []) s → SomeClash qs s
-  fired_clash s = clash_more member s

@@ -6,14 +6,14 @@ use Prim.Native.Nat.{ℕ, ◌+◌, ◌<◌, ◌≤◌}
 use native.Mathlib.Omega.{arith}
 use native.Mathlib.Decide.{ℕ_discrete}
 use lib.ListN.{length, get_or, set, length-set}
-use lib.Seq.{get_or-set_same, get_or-set_other, set-get_or}
+use lib.Seq.{get_or-set_same, get_or-set_other}
 use Rattle.lemmas.proofs.Reading.{get_d_default}
 use Rattle.spec.specs.Fill.{open_count}
 use Rattle.lemmas.proofs.Reading.{get_d_set}
 use Rattle.theory.proofs.Measure.{open_set}
 use Rattle.engine.specs.Moves.{Cells}
 use Rattle.engine.specs.Queue.{Lent, HasBox, Queued, Settling}
-use Rattle.engine.proofs.Queueing.{queued_refl, lent_later}
+use Rattle.engine.proofs.Queueing.{lent_later}
 
 -- a box below 256 is read inside, so what is read past the end is of no matter
 pub cells_read : {s : List ℕ} → Cells s → (b : ℕ) → b < 256 → get_or s b 0 ≡ get_or s b 2
@@ -26,12 +26,6 @@ SettledTo s t queue queue' tail tail' b state = (t ≡ set s b state) × Queued 
 module _ {s queue : List ℕ} {tail b state : ℕ} (asked : Settling s queue tail b state) where
   within : b < length s
   within = omega (arith, asked.below, asked.lent.cells.size)
-
-  -- it has the state already: nothing is stored
-  pub settle_still : get_or s b 0 ≡ state → SettledTo s s queue queue tail tail b state
-  settle_still e =
-      let same : get_or s b 2 ≡ state = sym (cells_read asked.lent.cells b asked.below) ∙ e in
-      (rw (← same) (sym (set-get_or s b 2)), queued_refl s queue tail)
 
   module _ (new : get_or s b 0 ≡ state → ⊥) where
     -- it is open

@@ -14,7 +14,7 @@ use Rattle.engine.specs.Moves.{SomeClash}
 use Rattle.engine.specs.Queue.{RecordStepped, Seen, IsNext, Waits, rests, Ran, SweptTo}
 use Rattle.engine.specs.declared.step.Clash.{Clash}
 use Rattle.engine.proofs.Waiting.{waits_queued}
-use Rattle.engine.proofs.Running.{ran_refl, ran_trans, ran_clash, fired_ran, fired_clash}
+use Rattle.engine.proofs.Running.{ran_refl, ran_trans, ran_clash, fired_ran, clash_more}
 
 -- a record's step, whether or not it counts as a rule
 module _ (q : Rec) (t u queue queue' : List ℕ) (tail : ℕ) where
@@ -34,7 +34,7 @@ module _ (q : Rec) (t u queue queue' : List ℕ) (tail : ℕ) where
 
   stepped_clash : (qs : List Rec) (counts : Bool) → (counts ≡ true → Memᴰ q qs) → (lost : Clash) →
       RecordStepped counts q t u queue queue' tail (Err lost) → SomeClash qs t
-  stepped_clash qs true member lost clashed = fired_clash (member refl) t clashed.clash
+  stepped_clash qs true member lost clashed = clash_more (member refl) t clashed.clash
   stepped_clash qs false member lost (e, e', e'') = absurd cc
 
 pub seen_all : (back : Bool) {all i j : ℕ} → all ≤ i → j < all → Seen back all i j

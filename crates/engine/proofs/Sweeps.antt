@@ -6,10 +6,8 @@ use native.Mathlib.Omega.{arith}
 use Rattle.spec.specs.Records.{Rec}
 use Rattle.theory.specs.Steps.{Grown}
 use Rattle.theory.proofs.Growth.{grown_trans}
-use Rattle.engine.specs.Moves.{AllStable}
 use Rattle.engine.specs.Queue.{Lent, AllWait, SweptTo}
 use Rattle.engine.proofs.Running.{lent_ran}
-use Rattle.engine.proofs.Draining.{drain_end}
 
 -- the boxes that the last one settled are in the queue from `start` on
 pub record Sweeps (qs : List Rec) (s t queue : List ℕ) (start end : ℕ) : Type 0 where
@@ -37,6 +35,3 @@ module _ {qs : List Rec} {s t queue : List ℕ} {start end : ℕ} (so : Sweeps q
         within = swept.ran.queued.later;
         waits = swept.waits;
       }
-
-  pub sweeps_end : end ≤ start → Grown qs s t × AllStable qs t
-  sweeps_end none = (so.grown, drain_end so.waits none)

@@ -13,7 +13,7 @@ use Rattle.index.specs.Index.{rule_at, packed_rules, entry_of, Held, Top}
 use Rattle.engine.specs.Queue.{Fired, Clashed, Waits, rests, Ran, VisitedTo}
 use Rattle.index.proofs.Linking.{held_number, below_held, held_member, member_held}
 use Rattle.engine.proofs.Waiting.{waits_queued}
-use Rattle.engine.proofs.Running.{ran_refl, ran_trans, ran_clash, fired_ran, fired_clash}
+use Rattle.engine.proofs.Running.{ran_refl, ran_trans, ran_clash, fired_ran, clash_more}
 
 entry_positive : (j : ℕ) (p : Place) → 0 < entry_of j p
 entry_positive j X = omega arith
@@ -69,7 +69,7 @@ module _ (packed : List ℕ) (m b : ℕ) where
 
       pub visit_clash : {queue'' : List ℕ} → Clashed (rule_at packed (e / 4) ∷ []) t queue' queue'' → Clashed rules s queue queue''
       visit_clash clashed =
-          record { clash = ran_clash so.ran (fired_clash member t clashed.clash); size = clashed.size ∙ so.ran.queued.size }
+          record { clash = ran_clash so.ran (clash_more member t clashed.clash); size = clashed.size ∙ so.ran.queued.size }
 
       pub visit_step : {u queue'' : List ℕ} {tail'' : ℕ} → Fired (rule_at packed (e / 4)) t u queue' queue'' tail' tail'' →
           (after : ℕ) → Top packed b e after → Above s u queue queue'' tail tail'' after

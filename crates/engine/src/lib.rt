@@ -58,6 +58,7 @@ pub fn run(t: Tables, states: &mut [u8; 256]) -> Result<(), Clash>
     let mut end = sweep(t, false, states, &mut queue, 0)?;
     let mut left = more_sweeps(t.records());
     let mut back = true;
+    // a `for` over those left would need this test twice: before each sweep, and after the last
     'sweeps: while start < end {
         if left == 0 {
             return run_queue(t, states, &mut queue, start, end);

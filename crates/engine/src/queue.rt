@@ -74,6 +74,7 @@ pub fn drain(
 {
     let mut head = from;
     let mut tail = to;
+    // the queue grows while its boxes are taken, so no range holds their places
     while head < tail {
         tail = visit(index, box_of(queue[head]), states, queue, tail)?;
         head += 1;

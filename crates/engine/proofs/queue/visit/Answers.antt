@@ -12,29 +12,15 @@ loop-e-init c =
     let heads = c.requires.indexed.links.heads c.args.b c.requires.b_bound in
     (c.requires.lent, visit_start _ _ _ c.requires.lent.cells.sheet heads)
 
-pub step_rule-requires : goal.step_rule-requires
-step_rule-requires c =
-    let below = rule_below _ _ _ c.loop-e.invariant.1 c.loop-e-test.true in
-    let packs = c.requires.indexed.packs in
-    record {
-      packed_len = packs.size;
-      j_bound = omega (arith, below, packs.room);
-      step_input = record { good = packs.good _ (held_member _ below); lent = c.loop-e.invariant.0 };
-    }
+pub step_rule-requires-clause-step_input : goal.step_rule-requires-clause-step_input
+step_rule-requires-clause-step_input c =
+    let member = held_member _ (rule_below _ _ _ c.loop-e.invariant.1 c.loop-e-test.true) in
+    record { good = c.requires.indexed.packs.good _ member; lent = c.loop-e.invariant.0 }
 
 pub returns-in_err-tail : goal.returns-in_err-tail
 returns-in_err-tail c =
     rw (err_from_is_err_and c.from_residual.result c.from_residual.ensures.1).1
     (visit_clash _ _ _ c.loop-e.invariant.1 c.loop-e-test.true c.in_err-tail.ensures)
-
--- the entry is one of the 4096
-pub offset_bounds-index-e : goal.offset_bounds-index-e
-offset_bounds-index-e c =
-    omega (arith, (entry_held _ _ _ c.loop-e.invariant.1 c.loop-e-test.true).1, c.requires.indexed.packs.room)
-
-pub bounds-index-e : goal.bounds-index-e
-bounds-index-e c =
-    omega (arith, (entry_held _ _ _ c.loop-e.invariant.1 c.loop-e-test.true).1, c.requires.indexed.packs.room)
 
 -- the next entry is the highest below
 pub loop-e-smaller : goal.loop-e-smaller

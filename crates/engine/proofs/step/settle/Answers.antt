@@ -1,10 +1,7 @@
 -- `engine::step::settle` meets its contract: a box that has the state is left alone, and an open one is stored and noted.
 -- Assumes nothing.
-use Rattle.engine.proofs.Settled.{settle_still, settle_room, settle_new}
+use Rattle.engine.proofs.Settled.{settle_room, settle_new}
 use Rattle.engine.proofs.step.settle.Goals as goal
-
-pub returns-then-states-b : goal.returns-then-states-b
-returns-then-states-b c = settle_still c.requires c.if-states-b.true
 
 pub bounds-queue-tail : goal.bounds-queue-tail
 bounds-queue-tail c = settle_room c.requires c.if-states-b.false

@@ -29,17 +29,11 @@ module _ (q : Rec) {s queue : List ℕ} {tail : ℕ} (input : StepInput q s queu
   read_input : StepInput (as_rule q) s queue tail
   read_input = subst⁻¹ (λ (p : Rec). StepInput p s queue tail) (same q input.good) input
 
-  passed : is_rule q ≡ false → RecordStepped (is_rule q) q s s queue queue tail (Ok tail)
-  passed none = rw none (refl, refl, refl)
-
   counted : is_rule q ≡ true → (t queue' : List ℕ) (answer : Result ℕ Clash) → Stepped (as_rule q) s t queue queue' tail answer →
       RecordStepped (is_rule q) q s t queue queue' tail answer
   counted counts t queue' answer step =
       subst⁻¹ (λ (is : Bool). RecordStepped is q s t queue queue' tail answer) counts
       (subst (λ (p : Rec). Stepped p s t queue queue' tail answer) (same q input.good) step)
-
-pub returns-then-not-is_rule : goal.returns-then-not-is_rule
-returns-then-not-is_rule c = passed _ c.requires (sym c.is_rule.ensures ∙ c.if-not-is_rule.true)
 
 pub bounds-states-x : goal.bounds-states-x
 bounds-states-x c = look_x _ _ _ _ (read_input _ c.requires) (small _)
@@ -55,8 +49,8 @@ returns-then-at_rest c =
     counted _ c.requires (sym c.is_rule.ensures ∙ c.if-not-is_rule.false) _ _ (Ok c.args.tail)
     (look_fired _ _ _ _ (read_input _ c.requires) (small _) (c.at_rest.ensures c.if-at_rest.true))
 
-pub step-requires : goal.step-requires
-step-requires c = record { step_input = read_input _ c.requires; z_bound = small _ }
+pub step-requires-clause-step_input : goal.step-requires-clause-step_input
+step-requires-clause-step_input c = read_input _ c.requires
 
 pub returns : goal.returns
 returns c = counted _ c.requires (sym c.is_rule.ensures ∙ c.if-not-is_rule.false) _ _ c.step.result c.step.ensures

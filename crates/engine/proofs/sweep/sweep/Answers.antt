@@ -21,9 +21,6 @@ StepOf s t queue queue' tail answer q = RecordStepped (is_rule q) q s t queue qu
 pub loop-i-init : goal.loop-i-init
 loop-i-init c = (c.requires.lent, sweep_start _ _ c.args.back c.requires.lent.cells.sheet)
 
-pub record-requires : goal.record-requires
-record-requires c = omega (arith, c.turn.ensures.within)
-
 pub step_record-requires : goal.step_record-requires
 step_record-requires c =
     let below : c.turn.result < record_count c.args.t.maker.now c.args.t.depot.now = omega (arith, c.turn.ensures.within) in
