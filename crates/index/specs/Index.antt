@@ -50,9 +50,3 @@ pub record Linked (packed : List ℕ) (bound : ℕ) (first next : List ℕ) : Ty
   pub next_size : length next ≡ 4096
   pub heads : (b : ℕ) → b < 256 → Top packed b bound (get_or first b 0)
   pub links : (b e : ℕ) → Held packed b e → e < bound → Top packed b e (get_or next e 0)
-
--- the chain of box b that starts at this entry
-pub record Chained (packed : List ℕ) (m : ℕ) (next : List ℕ) (b head : ℕ) : Type 0 where
-  pub size : length next ≡ 4096
-  pub top : Top packed b (4 * m) head
-  pub links : (e : ℕ) → Held packed b e → e < 4 * m → Top packed b e (get_or next e 0)

@@ -117,16 +117,21 @@ impl Index {
     pub fn of(t: Tables) -> Index
         ensures { Indexed result (rules_in t.entry.maker.now t.entry.depot.now) }
     {
-        let mut packed = [0; 4096];
-        let mut first = [0; 256];
-        let mut next = [0; 4096];
-        let rules = pack(t, &mut packed);
-        link(&packed, rules, &mut first, &mut next);
-        Index {
-            packed,
-            rules,
-            first,
-            next,
-        }
+        let mut index = Index {
+            packed: [0; 4096],
+            rules: 0,
+            first: [0; 256],
+            next: [0; 4096],
+        };
+        // filled where it lies, so that no array is copied
+        let whole = &mut index;
+        whole.rules = pack(t, &mut whole.packed);
+        link(
+            &whole.packed,
+            whole.rules,
+            &mut whole.first,
+            &mut whole.next,
+        );
+        index
     }
 }
