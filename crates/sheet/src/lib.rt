@@ -53,9 +53,14 @@ pub fn count_filled(sheet: &[u8], filled: &[u8]) -> usize
     usize::from(n)
 }
 
+// Counted in the same way: `filter` and `count` miss the bar of speed.
 pub fn count_open(sheet: &[u8]) -> usize
     requires { length sheet.now ≤ 256 }
     ensures { result ≡ open_count sheet.now }
 {
-    sheet.iter().filter(|s| **s == OPEN).count()
+    let mut n: u16 = 0;
+    for state in sheet {
+        n += u16::from(*state == OPEN);
+    }
+    usize::from(n)
 }

@@ -1,23 +1,13 @@
 -- `sheet::count_filled` meets its contract.
 -- Assumes nothing.
-use Rattle.std.proofs.Common.{◌≡◌, ℕ, ◌+◌, ◌≤◌, Bool, true, false, length, refl, ◌∙◌, arith}
-use mir.Val.{bool_byte}
+use Rattle.std.proofs.Common.{◌≡◌, ◌≤◌, length, refl, ◌∙◌, arith}
 use Rattle.std.proofs.lemmas.List.{length_push}
 use Rattle.std.proofs.lemmas.Slice.Zip.{zip_turn, zip_end}
-use Rattle.lemmas.specs.Lists.{count, upto}
-use Rattle.lemmas.proofs.Indexed.{count_upto_yes, count_upto_no, count_upto_below}
+use Rattle.lemmas.proofs.Indexed.{count_upto_below}
 use Rattle.spec.specs.Fill.{boxes_filled}
 use Rattle.sheet.proofs.count_filled.Invariants.{is_filled}
+use Rattle.sheet.proofs.Counting.{count_next, at_most_one}
 use Rattle.sheet.proofs.count_filled.Goals as goal
-
--- one box more is counted
-count_next : (p : ℕ → Bool) (b : ℕ) (is : Bool) → p b ≡ is → count p (upto (b + 1)) ≡ count p (upto b) + bool_byte is
-count_next p b true e = count_upto_yes p b e
-count_next p b false e = omega (arith, count_upto_no p b e)
-
-at_most_one : (is : Bool) → bool_byte is ≤ 1
-at_most_one true = omega arith
-at_most_one false = omega arith
 
 pub overflow_add-n : goal.overflow_add-n
 overflow_add-n c =
