@@ -20,30 +20,37 @@ use Rattle.engine.specs.Moves.{Cells}
 use Rattle.engine.proofs.Settled.{cells_read}
 use Rattle.why.specs.Given.{given_alone}
 use Rattle.whylists.specs.Lines.{given_by}
-use Rattle.why.proofs.Trees.{x_gets_lem, y_gets_lem, z_gets_lem, side_counted}
+use Rattle.why.proofs.Trees.{side_tree, x_gets_lem, y_gets_lem, z_gets_lem, side_counted}
 use Rattle.whylists.proofs.Carried.{given_alike, given_none}
 
 -- what the record gives box b
 abbrev pub given_code : Rec → List ℕ → ℕ → ℕ
 given_code q s b = code (given_by s b false q) (given_by s b true q)
 
-module _ (q : Rec) (s : List ℕ) (good : bad 256 q ≡ false) (cells : Cells s) where
+module _ (q : Rec) {s : List ℕ} (good : bad 256 q ≡ false) (cells : Cells s) where
   -- a record that does not count gives nothing
-  pub asked_passed : is_rule q ≡ false → (b : ℕ) → 2 ≡ given_code q s b
+  pub asked_passed : is_rule q ≡ false → (b : ℕ) → given_code q s b ≡ 2
   unfolding given_by code
   asked_passed passed b = rw passed
-
-  pub x_below : q.x < 256
-  x_below = good_x 256 q good
-
-  pub y_below : q.y < 256
-  y_below = good_y 256 q good
 
   pub read : (b : ℕ) → b < 256 → get_or s b 0 ≡ get_or s b 2
   read = cells_read cells
 
-  pub state_below : (b : ℕ) → b < 256 → get_or s b 0 ≤ 2
-  state_below b h = rw (read b h) (cells.sheet b)
+  -- the three states that a look reads
+  pub looked : OnSheet (get_or s q.x 0) (get_or s q.y 0) (get_or s (q.z % 256) 0)
+  looked = record { x_state = below _ (good_x 256 q good); y_state = below _ (good_y 256 q good); z_state = below _ (omega arith) }
+    where
+      below : (b : ℕ) → b < 256 → get_or s b 0 ≤ 2
+      below b h = rw (read b h) (cells.sheet b)
+
+  pub beside_x : OnSheet 2 (get_or s q.y 0) (get_or s (q.z % 256) 0)
+  beside_x = record { x_state = omega arith; y_state = looked.y_state; z_state = looked.z_state }
+
+  pub beside_y : OnSheet 2 (get_or s q.x 0) (get_or s (q.z % 256) 0)
+  beside_y = record { x_state = omega arith; y_state = looked.x_state; z_state = looked.z_state }
+
+  pub beside_z : OnSheet (get_or s q.x 0) (get_or s q.y 0) 2
+  beside_z = record { x_state = looked.x_state; y_state = looked.y_state; z_state = omega arith }
 
   -- the states that count are those that the record reads
   sheet_read : OnSheet (get_or s q.x 2) (get_or s q.y 2) (state_z q s)
@@ -67,47 +74,36 @@ module _ (q : Rec) (s : List ℕ) (good : bad 256 q ≡ false) (cells : Cells s)
     pub at_place : (p : Place) → Names q p →
         given_code q s (box_at q p) ≡ given_alone (box_at (alone q.kind) p) q.kind (get_or s q.x 2) (get_or s q.y 2) (state_z q s)
     unfolding given_by
-    at_place p named = rw (counts, given_alike q s 256 good p named false, given_alike q s 256 good p named true)
+    at_place p m = rw (counts, given_alike q s 256 good p m false, given_alike q s 256 good p m true)
 
     pub names : (p : Place) → T (named (kind_of q.kind) p) → Names q p
     names = named_names q (good_kind 256 q good)
 
-    pub asked_x : given_alone 0 q.kind 2 (get_or s q.y 0) (get_or s (q.z % 256) 0) ≡ given_code q s q.x
-    unfolding box_at
-    asked_x =
-        let y = get_or s q.y 0 in
-        let z = get_or s (q.z % 256) 0 in
-        let kind = q.kind in
-        let asked : OnSheet 2 y z = record { x_state = omega arith; y_state = state_below q.y y_below; z_state = state_below (q.z % 256) (omega arith) } in
-        sym (x_gets_lem kind asked)
-        ∙ side_counted kind asked
-        ∙ rw (z_counted_lem, read q.y y_below) (x_gets_lem kind sheet_read)
-        ∙ sym (at_place X (names X tt))
+    -- x by y and z, and y by x and z
+    side : {other : ℕ} → other < 256 → OnSheet 2 (get_or s other 0) (get_or s (q.z % 256) 0) →
+        side_tree q.kind (get_or s other 2) (state_z q s) ≡ given_alone 0 q.kind 2 (get_or s other 0) (get_or s (q.z % 256) 0)
+    side {other} h asked = rw (← z_counted_lem, ← read other h) (sym (side_counted q.kind asked) ∙ x_gets_lem q.kind asked)
 
-    pub asked_y : given_alone 0 q.kind 2 (get_or s q.x 0) (get_or s (q.z % 256) 0) ≡ given_code q s q.y
+    pub asked_x : (b : ℕ) → b ≡ q.x → given_code q s b ≡ given_alone 0 q.kind 2 (get_or s q.y 0) (get_or s (q.z % 256) 0)
     unfolding box_at
-    asked_y =
-        let x = get_or s q.x 0 in
-        let z = get_or s (q.z % 256) 0 in
-        let kind = q.kind in
-        let asked : OnSheet 2 x z = record { x_state = omega arith; y_state = state_below q.x x_below; z_state = state_below (q.z % 256) (omega arith) } in
-        sym (x_gets_lem kind asked)
-        ∙ side_counted kind asked
-        ∙ rw (z_counted_lem, read q.x x_below) (y_gets_lem kind sheet_read)
-        ∙ sym (at_place Y (names Y tt))
+    asked_x b e = rw e (at_place X (names X tt) ∙ sym (x_gets_lem q.kind sheet_read) ∙ side (good_y 256 q good) beside_x)
 
-    module _ (there : z_missing q ≡ false) where
-      pub asked_z : given_alone 2 q.kind (get_or s q.x 0) (get_or s q.y 0) 2 ≡ given_code q s q.z
-      unfolding box_at
-      asked_z =
-          let kind = q.kind in
-          let asked : OnSheet (get_or s q.x 0) (get_or s q.y 0) 2 = record { x_state = state_below q.x x_below; y_state = state_below q.y y_below; z_state = omega arith } in
-          sym (z_gets_lem kind asked)
-          ∙ rw (read q.x x_below, read q.y y_below) (z_gets_lem kind sheet_read)
-          ∙ sym (at_place Z (names Z (rw there tt)))
+    pub asked_y : (b : ℕ) → b ≡ q.y → given_code q s b ≡ given_alone 0 q.kind 2 (get_or s q.x 0) (get_or s (q.z % 256) 0)
+    unfolding box_at
+    asked_y b e = rw e (at_place Y (names Y tt) ∙ sym (y_gets_lem q.kind sheet_read) ∙ side (good_x 256 q good) beside_y)
+
+    pub asked_z : z_missing q ≡ false → (b : ℕ) → b ≡ q.z % 256 → given_code q s b ≡ given_alone 2 q.kind (get_or s q.x 0) (get_or s q.y 0) 2
+    unfolding box_at
+    asked_z there b e =
+        let within = good_z 256 q good there in
+        let same : b ≡ q.z = omega arith in
+        rw same
+        (at_place Z (names Z (rw there tt))
+        ∙ sym (z_gets_lem q.kind sheet_read)
+        ∙ rw (← read q.x (good_x 256 q good), ← read q.y (good_y 256 q good)) (z_gets_lem q.kind beside_z))
 
     -- a box at none of its places
-    pub asked_none : (b : ℕ) → (b ≡ q.x → ⊥) → (b ≡ q.y → ⊥) → (z_missing q ≡ false → b ≡ q.z → ⊥) → 2 ≡ given_code q s b
+    pub asked_none : (b : ℕ) → (b ≡ q.x → ⊥) → (b ≡ q.y → ⊥) → (z_missing q ≡ false → b ≡ q.z → ⊥) → given_code q s b ≡ 2
     unfolding given_by code box_at
     asked_none b ¬x ¬y ¬z = rw (counts, given_none q s 256 good b other false, given_none q s 256 good b other true)
       where

@@ -6,16 +6,16 @@ use mathlib.Core.List.{List}
 use Prim.Native.Nat.{ℕ, suc, ◌+◌, ◌≤◌, ◌<◌}
 use native.Mathlib.Omega.{arith}
 use native.Mathlib.Decide.{ℕ_discrete}
+use borrow.Author.Count.{below_more}
 use borrow.Author.Tests.{not-false}
 use lib.Dec.{ltb, eqb, ltb→lt}
 use lib.ListN.{length, get_or, set, length-set}
 use lib.Seq.{get_or-set_same, get_or-set_other}
 use Rattle.lemmas.specs.Lists.{any, upto}
-use Rattle.lemmas.proofs.Lowest.{Searched, searched_next}
 use Rattle.lemmas.proofs.Reading.{get_d_set}
 use Rattle.spec.specs.Records.{record_at, record_count}
 use Rattle.engine.specs.Moves.{Cells}
-use Rattle.whylists.specs.Lines.{line_at, line_count, known, given_by, right_after, right}
+use Rattle.whylists.specs.Lines.{line_at, known, given_by, right_after, right}
 use Rattle.why.specs.Read.{right_on}
 use Rattle.whylists.proofs.Carried.{given_same}
 use Rattle.whylists.proofs.Known.{IsRight, is_right, right_within, known_size, open_same}
@@ -32,11 +32,11 @@ module _ (maker depot sheet l : List ℕ) where
   pub record Checked (s : List ℕ) (k : ℕ) : Type 0 where
     pub cells : Cells s
     pub same : (b : ℕ) → get_or s b 2 ≡ get_or (known sheet l k) b 2
-    pub searched : Searched wrong (line_count l) k
+    pub none : (i : ℕ) → i < k → wrong i ≡ false
 
   module _ {s : List ℕ} {k : ℕ} (so : Checked s k) where
     rights : (i : ℕ) → i < k → IsRight maker depot sheet l i
-    rights i h = is_right maker depot sheet l i (not-false _ (so.searched.none i h))
+    rights i h = is_right maker depot sheet l i (not-false _ (so.none i h))
 
     -- a line is right on these states just when it is right after those above it
     pub right_same : right_on maker depot (length sheet) s (line_at l k) ≡ right maker depot sheet l k
@@ -55,7 +55,7 @@ module _ (maker depot sheet l : List ℕ) where
         (given_same s (known sheet l k) so.same a.box (eqb a.state 1) (record_at maker depot a.number))
 
     -- the line is right: its box gets its state
-    module _ (below : k < line_count l) (is : right maker depot sheet l k ≡ true) where
+    module _ (is : right maker depot sheet l k ≡ true) where
       line : IsRight maker depot sheet l k
       line = is_right maker depot sheet l k is
 
@@ -71,7 +71,7 @@ module _ (maker depot sheet l : List ℕ) where
                   sheet = get_d_set (λ c. c ≤ 2) s (line_at l k).box (line_at l k).state 2 (omega (arith, line_state)) so.cells.sheet;
                 };
             same = λ b. subst⁻¹ (λ (j : ℕ). get_or (set s (line_at l k).box (line_at l k).state) b 2 ≡ get_or (known sheet l j) b 2) (one_more k) (at b (ℕ_discrete b (line_at l k).box));
-            searched = searched_next so.searched below (rw is);
+            none = below_more _ k so.none (rw is);
           }
         where
           one_more : (j : ℕ) → j + 1 ≡ suc j

@@ -19,7 +19,7 @@ use Rattle.theory.proofs.Loading.{loaded_sheet}
 use Rattle.engine.specs.Moves.{Cells}
 use Rattle.whylists.specs.Lines.{Line, given_by}
 use Rattle.whylists.specs.Ours.{next_box, next_line, lines_from, ours, line_bytes, lines_bytes}
-use Rattle.why.specs.Next.{LowestGiven}
+use Rattle.why.specs.Next.{LowestGiven, NoneGiven}
 use Rattle.why.specs.Made.{Made}
 use Rattle.why.proofs.Making.{next_none, next_box_lem, next_record, next_state}
 
@@ -64,74 +64,71 @@ module _ (maker depot sheet out₀ : List ℕ) (n : ℕ) where
         let all : ours maker depot sheet ≡ so.done = so.rest ∙ ap (λ (l : List Line). so.done ++ l) none ∙ append-nil so.done in
         record { stored = rw all so.puts.stored; lines = rw all (sym so.lines) }
 
-    pub making_full : n ≤ k → Made maker depot sheet out₀ out k
-    making_full h = let left : n - k ≡ 0 = omega arith in ended (rw left)
+    pub making_full : k ≡ n → Made maker depot sheet out₀ out n
+    making_full e =
+        let none_left : n - k ≡ 0 = omega arith in
+        subst (λ (m : ℕ). Made maker depot sheet out₀ out m) e (ended (rw none_left))
 
-    module _ (below : k < n) {b number : ℕ} (low : LowestGiven maker depot s n (record_count maker depot) b number) where
+    left : k < n → n - k ≡ suc (n - (k + 1))
+    left below = omega arith
+
+    pub making_none : k < n → NoneGiven maker depot s n (record_count maker depot) → Made maker depot sheet out₀ out k
+    making_none below none = ended (rw (left below, next_none maker depot s so.t so.same (rw so.size none)))
+
+    module _ (below : k < n) {b number : ℕ} (low : LowestGiven maker depot s n (record_count maker depot) b number)
+        (g : ℕ) (e : g ≡ code (given_by s b false (record_at maker depot number)) (given_by s b true (record_at maker depot number)))
+        (small : g ≤ 2) where
       low_t : LowestGiven maker depot s (length so.t) (record_count maker depot) b number
       low_t = subst⁻¹ (λ (m : ℕ). LowestGiven maker depot s m (record_count maker depot) b number) so.size low
 
-      left : n - k ≡ suc (n - (k + 1))
-      left = omega arith
+      abbrev pub a : Line
+      a = record { box = b; state = g; byte3 = 0; number = number; bytes67 = 0 }
 
-      pub making_none : n ≤ b → Made maker depot sheet out₀ out k
-      making_none h = ended (rw (left, next_none maker depot s so.t so.same low_t (omega (arith, so.size))))
+      -- the line that the sentence names
+      is_line : next_line maker depot so.t ≡ a
+      unfolding next_line
+      is_line =
+          rw (
+            next_box_lem maker depot s so.t so.same low_t,
+            next_record maker depot s so.t so.same low_t,
+            next_state maker depot s so.t so.same low_t g e small,
+          )
 
-      module _ (is : b < n) (g : ℕ) (e : g ≡ code (given_by s b false (record_at maker depot number)) (given_by s b true (record_at maker depot number)))
-          (small : g ≤ 2) where
-        here : b < length so.t
-        here = omega (arith, so.size)
+      one_more : lines_from maker depot (n - k) so.t ≡ a ∷ lines_from maker depot (n - (k + 1)) (set so.t b g)
+      one_more =
+          rw (
+            left below,
+            lt-ltb (next_box maker depot so.t) (length so.t) (rw (next_box_lem maker depot s so.t so.same low_t) low_t.within),
+            is_line,
+            next_box_lem maker depot s so.t so.same low_t,
+            next_state maker depot s so.t so.same low_t g e small,
+          )
 
-        -- the line that the sentence names
-        is_line : next_line maker depot so.t ≡ record { box = b; state = g; byte3 = 0; number = number; bytes67 = 0 }
-        unfolding next_line
-        is_line =
-            rw (
-              next_box_lem maker depot s so.t so.same low_t here,
-              next_record maker depot s so.t so.same low_t here,
-              next_state maker depot s so.t so.same low_t here g e small,
-            )
+      pub making_next : b < 256 → {out' : List ℕ} {next : ℕ} → Put out (8 * k) (line_bytes a) out' next →
+          Making maker depot sheet out₀ out' (set s b g) n (k + 1)
+      making_next room {out'} {next} put =
+          record {
+            done = so.done ++ (a ∷ []);
+            t = set so.t b g;
+            cells =
+                record {
+                  size = length-set s b g ∙ so.cells.size;
+                  sheet = get_d_set (λ c. c ≤ 2) s b g 2 small so.cells.sheet;
+                };
+            size = length-set so.t b g ∙ so.size;
+            same = λ c. at c (ℕ_discrete c b);
+            lines = length-append so.done (a ∷ []) ∙ ap (λ (m : ℕ). m + 1) so.lines;
+            rest = so.rest ∙ ap (λ (l : List Line). so.done ++ l) one_more ∙ sym (append_assoc so.done (a ∷ []) (lines_from maker depot (n - (k + 1)) (set so.t b g)));
+            puts = both;
+          }
+        where
+          at : (c : ℕ) → Dec (c ≡ b) → get_or (set s b g) c 2 ≡ get_or (set so.t b g) c 2
+          at c (yes is) = rw (is, get_or-set_same s b g 2 (omega (arith, so.cells.size)), get_or-set_same so.t b g 2 low_t.within)
+          at c (no other) = get_or-set_other s b c g 2 other ∙ so.same c ∙ sym (get_or-set_other so.t b c g 2 other)
 
-        one_more : lines_from maker depot (n - k) so.t
-            ≡ record { box = b; state = g; byte3 = 0; number = number; bytes67 = 0 } ∷ lines_from maker depot (n - (k + 1)) (set so.t b g)
-        one_more =
-            rw (
-              left,
-              lt-ltb (next_box maker depot so.t) (length so.t) (rw (next_box_lem maker depot s so.t so.same low_t here) here),
-              is_line,
-              next_box_lem maker depot s so.t so.same low_t here,
-              next_state maker depot s so.t so.same low_t here g e small,
-            )
-
-        pub making_next : b < 256 → {out' : List ℕ} {next : ℕ} →
-            Put out (8 * k) (line_bytes (record { box = b; state = g; byte3 = 0; number = number; bytes67 = 0 })) out' next →
-            Making maker depot sheet out₀ out' (set s b g) n (k + 1)
-        making_next room {out'} {next} put =
-            record {
-              done = so.done ++ (a ∷ []);
-              t = set so.t b g;
-              cells =
-                  record {
-                    size = length-set s b g ∙ so.cells.size;
-                    sheet = get_d_set (λ c. c ≤ 2) s b g 2 small so.cells.sheet;
-                  };
-              size = length-set so.t b g ∙ so.size;
-              same = λ c. at c (ℕ_discrete c b);
-              lines = length-append so.done (a ∷ []) ∙ ap (λ (m : ℕ). m + 1) so.lines;
-              rest = so.rest ∙ ap (λ (l : List Line). so.done ++ l) one_more ∙ sym (append_assoc so.done (a ∷ []) (lines_from maker depot (n - (k + 1)) (set so.t b g)));
-              puts = both;
-            }
-          where
-            a : Line
-            a = record { box = b; state = g; byte3 = 0; number = number; bytes67 = 0 }
-
-            at : (c : ℕ) → Dec (c ≡ b) → get_or (set s b g) c 2 ≡ get_or (set so.t b g) c 2
-            at c (yes same) = rw (same, get_or-set_same s b g 2 (omega (arith, so.cells.size)), get_or-set_same so.t b g 2 here)
-            at c (no other) = get_or-set_other s b c g 2 other ∙ so.same c ∙ sym (get_or-set_other so.t b c g 2 other)
-
-            both : Put out₀ 0 (lines_bytes (so.done ++ (a ∷ []))) out' (8 * (k + 1))
-            both =
-                let joined = put_then so.puts put in
-                let end : next ≡ 8 * (k + 1) = put.after ∙ omega arith in
-                subst (λ (m : ℕ). Put out₀ 0 (lines_bytes (so.done ++ (a ∷ []))) out' m) end
-                (subst⁻¹ (λ (l : List ℕ). Put out₀ 0 l out' next) (bytes_more so.done a) joined)
+          both : Put out₀ 0 (lines_bytes (so.done ++ (a ∷ []))) out' (8 * (k + 1))
+          both =
+              let joined = put_then so.puts put in
+              let end : next ≡ 8 * (k + 1) = put.after ∙ omega arith in
+              subst (λ (m : ℕ). Put out₀ 0 (lines_bytes (so.done ++ (a ∷ []))) out' m) end
+              (subst⁻¹ (λ (l : List ℕ). Put out₀ 0 l out' next) (bytes_more so.done a) joined)

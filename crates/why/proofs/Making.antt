@@ -18,7 +18,7 @@ use Rattle.spec.specs.Records.{record_at, record_count}
 use Rattle.spec.specs.Rounds.{code}
 use Rattle.whylists.specs.Lines.{given_by}
 use Rattle.whylists.specs.Ours.{gives_box, follows_now, next_box, by_record, state_by}
-use Rattle.why.specs.Next.{offers, LowestGiven}
+use Rattle.why.specs.Next.{offers, LowestGiven, NoneGiven}
 use Rattle.whylists.proofs.Carried.{given_same}
 
 module _ (maker depot s t : List ℕ) (same : (b : ℕ) → get_or s b 2 ≡ get_or t b 2) where
@@ -60,44 +60,42 @@ module _ (maker depot s t : List ℕ) (same : (b : ℕ) → get_or s b 2 ≡ get
         let found = any_member (gives_box maker depot t b) (upto (record_count maker depot)) (both_right (eqb (get_or t b 0) 2) (any (gives_box maker depot t b) (upto (record_count maker depot))) both) in
         true≢false (sym (gives_offers found.0 opened (true_T (gives_box maker depot t b found.0) found.2)) ∙ none found.0 (member_upto (record_count maker depot) found.1)))
 
+  -- none follows
+  pub next_none : NoneGiven maker depot s (length t) (record_count maker depot) → ltb (next_box maker depot t) (length t) ≡ false
+  unfolding next_box
+  next_none none =
+      le-ltb (lowest (follows_now maker depot t) (length t)) (length t)
+      (omega (arith, lowest_none (follows_now maker depot t) (length t) (λ c l. follows_none c l (λ r m. none c l r m))))
+
   module _ {b number : ℕ} (so : LowestGiven maker depot s (length t) (record_count maker depot) b number) where
-    -- none follows
-    pub next_none : length t ≤ b → ltb (next_box maker depot t) (length t) ≡ false
+    pub next_box_lem : next_box maker depot t ≡ b
     unfolding next_box
-    next_none h =
-        le-ltb (lowest (follows_now maker depot t) (length t)) (length t)
-        (omega (arith, lowest_none (follows_now maker depot t) (length t) (λ c l. follows_none c l (λ r m. so.none c (omega arith) r m))))
+    next_box_lem =
+        lowest_at (follows_now maker depot t) (length t) b so.within (follows_some b so.within number so.counted so.given)
+        (λ c l. follows_none c (omega arith) (λ r m. so.none c l r m))
 
-    module _ (below : b < length t) where
-      pub next_box_lem : next_box maker depot t ≡ b
-      unfolding next_box
-      next_box_lem =
-          lowest_at (follows_now maker depot t) (length t) b below (follows_some b below number (so.given below).0 (so.given below).1)
-          (λ c l. follows_none c (omega arith) (λ r m. so.none c l r m))
+    pub next_record : by_record maker depot t ≡ number
+    unfolding by_record
+    next_record =
+        let gives = offers_gives b so.within number so.given in
+        rw next_box_lem
+        (lowest_at (gives_box maker depot t b) (record_count maker depot) number so.counted gives.1
+        (λ r l. false_T (gives_box maker depot t b r)
+        (λ g. true≢false (sym (gives_offers b so.within r gives.0 (true_T (gives_box maker depot t b r) g)) ∙ so.lowest r l))))
 
-      pub next_record : by_record maker depot t ≡ number
-      unfolding by_record
-      next_record =
-          let found = so.given below in
-          let gives = offers_gives b below number found.1 in
-          rw next_box_lem
-          (lowest_at (gives_box maker depot t b) (record_count maker depot) number found.0 gives.1
-          (λ r l. false_T (gives_box maker depot t b r)
-          (λ g. true≢false (sym (gives_offers b below r gives.0 (true_T (gives_box maker depot t b r) g)) ∙ so.lowest below r l))))
+    -- the state by what the record gives, which is not open and not both
+    pub next_state : (g : ℕ) → g ≡ code (given_by s b false (record_at maker depot number)) (given_by s b true (record_at maker depot number)) → g ≤ 2 →
+        state_by maker depot t ≡ g
+    unfolding state_by code
+    next_state g e low =
+        rw (next_record, next_box_lem, sym (given_same s t same b true (record_at maker depot number)))
+        (told (given_by s b false (record_at maker depot number)) (given_by s b true (record_at maker depot number)) some e)
+      where
+        some : (given_by s b false (record_at maker depot number) || given_by s b true (record_at maker depot number)) ≡ true
+        some = gives_same b number ∙ (offers_gives b so.within number so.given).1
 
-      -- the state by what the record gives, which is not open and not both
-      pub next_state : (g : ℕ) → g ≡ code (given_by s b false (record_at maker depot number)) (given_by s b true (record_at maker depot number)) → g ≤ 2 →
-          state_by maker depot t ≡ g
-      unfolding state_by code
-      next_state g e low =
-          rw (next_record, next_box_lem, sym (given_same s t same b true (record_at maker depot number)))
-          (told (given_by s b false (record_at maker depot number)) (given_by s b true (record_at maker depot number)) some e)
-        where
-          some : (given_by s b false (record_at maker depot number) || given_by s b true (record_at maker depot number)) ≡ true
-          some = gives_same b number ∙ (offers_gives b below number (so.given below).1).1
-
-          told : (out in' : Bool) → (out || in') ≡ true → g ≡ code out in' → cond in' 1 0 ≡ g
-          told true true is e' = absurd (omega (arith, e', low))
-          told true false is e' = sym e'
-          told false true is e' = sym e'
-          told false false is e' = absurd (true≢false (sym is))
+        told : (out in' : Bool) → (out || in') ≡ true → g ≡ code out in' → cond in' 1 0 ≡ g
+        told true true is e' = absurd (omega (arith, e', low))
+        told true false is e' = sym e'
+        told false true is e' = sym e'
+        told false false is e' = absurd (true≢false (sym is))

@@ -10,6 +10,7 @@ use borrow.Author.Count.{below_more}
 use borrow.Author.Tests.{eq-eqb, ne_eqb}
 use lib.Dec.{eqb}
 use lib.ListN.{get_or}
+use Rattle.std.specs.Prelude.{Option, Some, None}
 use Rattle.lemmas.specs.Lowest.{lowest}
 use Rattle.lemmas.proofs.Lowest.{lowest_at, lowest_none, lowest_found, lowest_below}
 use Rattle.spec.specs.Kinds.{Place, X, Y, Z}
@@ -17,13 +18,15 @@ use Rattle.spec.specs.Records.{Rec, box_at, bad, is_rule, record_at}
 use Rattle.spec.specs.Rounds.{code}
 use Rattle.theory.specs.Steps.{z_missing}
 use Rattle.engine.specs.Moves.{Cells}
+use Rattle.engine.proofs.Settled.{cells_read}
 use Rattle.whylists.specs.Lines.{given_by}
-use Rattle.why.specs.Next.{offers, Offered, LowestGiven}
+use Rattle.why.specs.Next.{offers, Offered, LowestGiven, NoneGiven}
+use Rattle.why.specs.declared.next.Next.{Next}
 use Rattle.theory.proofs.Embedding.{states_at_lem}
-use Rattle.fire.specs.States.{OnSheet, counted, Rests}
-use Rattle.why.proofs.Asked.{given_code, asked_passed, asked_none, x_below, y_below, read, state_below, z_counted_lem, at_place, names}
+use Rattle.fire.specs.States.{counted, Rests}
+use Rattle.why.proofs.Asked.{given_code, asked_passed, asked_none, looked, z_counted_lem, at_place, names}
 use Rattle.why.proofs.Resting.{rest_x, rest_y, rest_z}
-use Rattle.theory.proofs.Places.{Names}
+use Rattle.theory.proofs.Places.{Names, good_x, good_y}
 
 -- the code of two facts is open just when neither is there
 code_none : (out in' : Bool) → code out in' ≡ 2 → (out || in') ≡ false
@@ -86,13 +89,13 @@ module _ {s : List ℕ} {q : Rec} {below : ℕ} where
           same ∙ sym (lowest_none (offers s q) below (λ c l. none c (omega arith)))
 
 -- a box at none of the record's places
-module _ (q : Rec) (s : List ℕ) (good : bad 256 q ≡ false) (cells : Cells s) where
+module _ (q : Rec) {s : List ℕ} (good : bad 256 q ≡ false) (cells : Cells s) where
   pub offers_other : (c : ℕ) → (c ≡ q.x → ⊥) → (c ≡ q.y → ⊥) → (z_missing q ≡ false → c ≡ q.z → ⊥) → offers s q c ≡ false
   offers_other c ¬x ¬y ¬z = at (is_rule q) refl
     where
       at : (counts : Bool) → is_rule q ≡ counts → offers s q c ≡ false
-      at true e = offers_none s q c (sym (asked_none q s good cells e c ¬x ¬y ¬z))
-      at false e = offers_none s q c (sym (asked_passed q s good cells e c))
+      at true e = offers_none s q c (asked_none q good cells e c ¬x ¬y ¬z)
+      at false e = offers_none s q c (asked_passed q good cells e c)
 
   -- which of its boxes have been offered
   pub offers_all : {r : ℕ} → (q.x < r → offers s q q.x ≡ false) → (q.y < r → offers s q q.y ≡ false) →
@@ -106,34 +109,28 @@ module _ (q : Rec) (s : List ℕ) (good : bad 256 q ≡ false) (cells : Cells s)
       at (no ¬x) (no ¬y) (yes e) true is = offers_other c ¬x ¬y (λ there. absurd (true≢false (sym is ∙ there)))
       at (no ¬x) (no ¬y) (no ¬z) m is = offers_other c ¬x ¬y (λ there. ¬z)
 
--- the three states that a look reads
-pub looked : (q : Rec) (s : List ℕ) → bad 256 q ≡ false → Cells s → OnSheet (get_or s q.x 0) (get_or s q.y 0) (get_or s (q.z % 256) 0)
-looked q s good cells =
-    record {
-      x_state = state_below q s good cells q.x (x_below q s good cells);
-      y_state = state_below q s good cells q.y (y_below q s good cells);
-      z_state = state_below q s good cells (q.z % 256) (omega arith);
-    }
-
 -- a record at rest offers none
-module _ (q : Rec) (s : List ℕ) (good : bad 256 q ≡ false) (cells : Cells s)
+module _ (q : Rec) {s : List ℕ} (good : bad 256 q ≡ false) (cells : Cells s)
     (rests : Rests q.kind (get_or s q.x 0) (get_or s q.y 0) (get_or s (q.z % 256) 0)) where
+  x_read : get_or s q.x 0 ≡ get_or s q.x 2
+  x_read = cells_read cells q.x (good_x 256 q good)
+
+  y_read : get_or s q.y 0 ≡ get_or s q.y 2
+  y_read = cells_read cells q.y (good_y 256 q good)
+
   -- at a place that is named and open
   rest_code : is_rule q ≡ true → (p : Place) → Names q p → get_or s (box_at q p) 2 ≡ 2 → given_code q s (box_at q p) ≡ 2
   unfolding box_at
   rest_code counts X m e =
-      at_place q s good cells counts X m
-      ∙ (rw (read q s good cells q.x (x_below q s good cells), read q s good cells q.y (y_below q s good cells), z_counted_lem q s good cells) at
-      (rest_x q.kind (looked q s good cells) rests (read q s good cells q.x (x_below q s good cells) ∙ e)))
+      at_place q good cells counts X m
+      ∙ (rw (x_read, y_read, z_counted_lem q good cells) at (rest_x q.kind (looked q good cells) rests (x_read ∙ e)))
   rest_code counts Y m e =
-      at_place q s good cells counts Y m
-      ∙ (rw (read q s good cells q.x (x_below q s good cells), read q s good cells q.y (y_below q s good cells), z_counted_lem q s good cells) at
-      (rest_y q.kind (looked q s good cells) rests (read q s good cells q.y (y_below q s good cells) ∙ e)))
+      at_place q good cells counts Y m
+      ∙ (rw (x_read, y_read, z_counted_lem q good cells) at (rest_y q.kind (looked q good cells) rests (y_read ∙ e)))
   rest_code counts Z m e =
-      let opened : counted q.kind (get_or s (q.z % 256) 0) ≡ 2 = z_counted_lem q s good cells ∙ states_at_lem q s 256 good Z m ∙ e in
-      at_place q s good cells counts Z m
-      ∙ (rw (read q s good cells q.x (x_below q s good cells), read q s good cells q.y (y_below q s good cells), z_counted_lem q s good cells) at
-      (rest_z q.kind (looked q s good cells) rests opened))
+      let opened : counted q.kind (get_or s (q.z % 256) 0) ≡ 2 = z_counted_lem q good cells ∙ states_at_lem q s 256 good Z m ∙ e in
+      at_place q good cells counts Z m
+      ∙ (rw (x_read, y_read, z_counted_lem q good cells) at (rest_z q.kind (looked q good cells) rests opened))
 
   at_rest : is_rule q ≡ true → (p : Place) → Names q p → offers s q (box_at q p) ≡ false
   at_rest counts p m = at (ℕ_discrete (get_or s (box_at q p) 2) 2)
@@ -147,33 +144,60 @@ module _ (q : Rec) (s : List ℕ) (good : bad 256 q ≡ false) (cells : Cells s)
   offers_rest c = at (is_rule q) refl
     where
       at : (counts : Bool) → is_rule q ≡ counts → offers s q c ≡ false
-      at false e = offers_none s q c (sym (asked_passed q s good cells e c))
-      at true e = offers_all q s good cells {r = suc c} (λ h. named X (names q s good cells e X tt)) (λ h. named Y (names q s good cells e Y tt))
-          (λ there h. named Z (names q s good cells e Z (rw there tt))) c (omega arith)
-        where
-          named : (p : Place) → Names q p → offers s q (box_at q p) ≡ false
-          named = at_rest e
+      at false e = offers_none s q c (asked_passed q good cells e c)
+      at true e =
+          let named = names q good cells e in
+          offers_all q good cells {r = suc c} (λ h. at_rest e X (named X tt)) (λ h. at_rest e Y (named Y tt))
+          (λ there h. at_rest e Z (named Z (rw there tt))) c (omega arith)
 
--- record by record
-module _ (maker depot s : List ℕ) (n : ℕ) where
-  module _ {i b number : ℕ} (so : LowestGiven maker depot s n i b number) where
-    -- record i gives a lower box a state
-    pub given_lower : {c : ℕ} → c ≡ lowest (offers s (record_at maker depot i)) b → c < b → LowestGiven maker depot s n (i + 1) c i
-    given_lower {c} e h =
-        let found = lowest_found (offers s (record_at maker depot i)) b (rw (← e) h) in
-        record {
-          within = omega (arith, so.within);
-          none = λ d l. below_more _ i (so.none d (omega arith)) (found.1 d (rw (← e) l));
-          given = λ l. (omega arith, rw e found.0);
-          lowest = λ l j less. so.none c h j less;
-        }
+-- the search has come to record i: `below` is the box of the next line so far, or n
+abbrev pub SoFar : (maker depot s : List ℕ) (n i below : ℕ) → Option Next → Type 0
+SoFar maker depot s n i below None = (below ≡ n) × NoneGiven maker depot s n i
+SoFar maker depot s n i below (Some next) = (below ≡ next.b) × LowestGiven maker depot s n i next.b next.number
 
-    -- it gives none below
-    pub given_kept : {c : ℕ} → c ≡ lowest (offers s (record_at maker depot i)) b → b ≤ c → LowestGiven maker depot s n (i + 1) b number
-    given_kept {c} e h =
+module _ (maker depot s : List ℕ) (n i below : ℕ) where
+  none_below : (next : Option Next) → SoFar maker depot s n i below next → (c : ℕ) → c < below → (j : ℕ) → j < i →
+      offers s (record_at maker depot j) c ≡ false
+  none_below None so c h = so.1 c (omega arith)
+  none_below (Some next) so c h = so.1.none c (omega arith)
+
+  within : (next : Option Next) → SoFar maker depot s n i below next → below ≤ n
+  within None so = omega arith
+  within (Some next) so = omega arith
+
+  -- record i gives a lower box a state
+  pub so_lower : (next : Option Next) → SoFar maker depot s n i below next → (c : ℕ) → c ≡ lowest (offers s (record_at maker depot i)) below →
+      c < below → SoFar maker depot s n (i + 1) c (Some (record { b = c; number = i }))
+  so_lower next so c e h =
+      let found = lowest_found (offers s (record_at maker depot i)) below (rw (← e) h) in (
+        refl,
         record {
-          within = so.within;
-          none = λ d l. below_more _ i (so.none d l) (lowest_below (offers s (record_at maker depot i)) b d (rw (← e) h) l);
-          given = λ l. let g = so.given l in (omega (arith, g.0), g.1);
-          lowest = so.lowest;
-        }
+          within = omega (arith, within next so);
+          none = λ d l. below_more _ i (none_below next so d (omega arith)) (found.1 d (rw (← e) l));
+          counted = omega arith;
+          given = rw e found.0;
+          lowest = none_below next so c h;
+        },
+      )
+
+  -- it gives none below
+  pub so_kept : (next : Option Next) → SoFar maker depot s n i below next → (c : ℕ) → c ≡ lowest (offers s (record_at maker depot i)) below →
+      below ≤ c → SoFar maker depot s n (i + 1) below next
+  so_kept next so c e h = at next so
+    where
+      none_more : (d : ℕ) → d < below → (j : ℕ) → j < i + 1 → offers s (record_at maker depot j) d ≡ false
+      none_more d l =
+          below_more _ i (none_below next so d l) (lowest_below (offers s (record_at maker depot i)) below d (rw (← e) h) l)
+
+      at : (next : Option Next) → SoFar maker depot s n i below next → SoFar maker depot s n (i + 1) below next
+      at None so = (so.0, λ d l. none_more d (omega arith))
+      at (Some next) so = (
+        so.0,
+        record {
+          within = so.1.within;
+          none = λ d l. none_more d (omega arith);
+          counted = omega arith;
+          given = so.1.given;
+          lowest = so.1.lowest;
+        },
+      )

@@ -1,19 +1,15 @@
 -- The code's matches as definitions that compute, and what they give: one computed test for each box of a record.
 -- Assumes nothing.
-use mathlib.Core.Path.{◌≡◌, refl, ap}
+use mathlib.Core.Path.{◌≡◌, refl, sym}
 use mathlib.Core.Bool.{Bool, cond}
-use mathlib.Core.List.{List, [], ◌∷◌}
 use Prim.Native.Nat.{ℕ}
-use native.Mathlib.Decide.{ℕ_discrete}
 use lib.Dec.{eqb}
-use lib.ListN.{get_or}
-use Rattle.spec.specs.Kinds.{kind_of}
+use Rattle.spec.specs.Kinds.{Kind, EQU, NOT, AND, OR, other, kind_of}
 use Rattle.spec.specs.Rules.{rules_of}
 use Rattle.spec.specs.Records.{box_at, lacks_z}
 use Rattle.spec.specs.Facts.{holds}
 use Rattle.spec.specs.Rounds.{has, names, gives, code}
 use Rattle.fire.specs.States.{OnSheet, counted}
-use Rattle.fire.proofs.Tree.{NoKind, number_none}
 use Rattle.fire.proofs.Agree.{AtKinds, SameAbove, kinds_same}
 use Rattle.why.specs.Given.{given_alone}
 
@@ -24,34 +20,26 @@ abbrev in' : ℕ → Bool
 in' state = eqb state 1
 
 -- x by y and z, and y by x and z
-abbrev side_trees : List ((other z : ℕ) → ℕ)
-side_trees =
-    (λ other z. 2)
-    ∷ (λ other z. other)
-    ∷ (λ other z. cond (out other) 1 (cond (in' other) 0 2))
-    ∷ (λ other z. cond (in' z) 1 (cond (out z) (cond (in' other) 0 2) 2))
-    ∷ (λ other z. cond (out z) 0 (cond (in' z) (cond (out other) 1 2) 2))
-    ∷ []
+abbrev pub side_of : Kind → (y z : ℕ) → ℕ
+side_of EQU y z = y
+side_of NOT y z = cond (out y) 1 (cond (in' y) 0 2)
+side_of AND y z = cond (in' z) 1 (cond (out z) (cond (in' y) 0 2) 2)
+side_of OR y z = cond (out z) 0 (cond (in' z) (cond (out y) 1 2) 2)
+side_of other y z = 2
 
-abbrev pub side_tree : (kind other z : ℕ) → ℕ
-side_tree kind = get_or side_trees kind (λ other z. 2)
-
--- a number that is no kind, as the code's last arm has it
-pub side_none : (kind : ℕ) → NoKind kind → (other z : ℕ) → side_tree kind other z ≡ 2
-side_none kind none other z = ap (λ (f : (other z : ℕ) → ℕ). f other z) (number_none _ _ _ _ _ kind none)
+abbrev pub side_tree : (kind y z : ℕ) → ℕ
+side_tree kind = side_of (kind_of kind)
 
 -- z by x and y
-abbrev z_trees : List ((x y : ℕ) → ℕ)
-z_trees =
-    (λ x y. 2)
-    ∷ (λ x y. 2)
-    ∷ (λ x y. 2)
-    ∷ (λ x y. cond (out x) 0 (cond (in' x) y (cond (out y) 0 2)))
-    ∷ (λ x y. cond (in' x) 1 (cond (out x) y (cond (in' y) 1 2)))
-    ∷ []
+abbrev pub z_of : Kind → (x y : ℕ) → ℕ
+z_of EQU x y = 2
+z_of NOT x y = 2
+z_of AND x y = cond (out x) 0 (cond (in' x) y (cond (out y) 0 2))
+z_of OR x y = cond (in' x) 1 (cond (out x) y (cond (in' y) 1 2))
+z_of other x y = 2
 
 abbrev pub z_tree : (kind x y : ℕ) → ℕ
-z_tree kind = get_or z_trees kind (λ x y. 2)
+z_tree kind = z_of (kind_of kind)
 
 abbrev x_gets : (kind x y z : ℕ) → ℕ
 x_gets kind x y z = side_tree kind y z
@@ -96,6 +84,12 @@ y_gets_lem = kinds_same y_gets (given_alone 1) y_kinds y_above
 pub z_gets_lem : (kind : ℕ) {x y z : ℕ} → OnSheet x y z → z_tree kind x y ≡ given_alone 2 kind x y z
 z_gets_lem = kinds_same z_gets (given_alone 2) z_kinds z_above
 
+pub side_given : (kind : ℕ) {x y z : ℕ} → OnSheet x y z → given_alone 0 kind x y z ≡ side_of (kind_of kind) y z
+side_given kind s = sym (x_gets_lem kind s)
+
+pub z_given : (kind : ℕ) {x y z : ℕ} → OnSheet x y z → given_alone 2 kind x y z ≡ z_of (kind_of kind) x y
+z_given kind s = sym (z_gets_lem kind s)
+
 -- and so is a z that the kind has not
 z_counted : AtKinds x_gets ≡ AtKinds (λ kind x y z. side_tree kind y (counted kind z))
 unfolding kind_of lacks_z
@@ -105,14 +99,5 @@ z_counted_above : SameAbove x_gets (λ kind x y z. side_tree kind y (counted kin
 unfolding kind_of lacks_z
 z_counted_above k = refl
 
-pub side_counted : (kind : ℕ) {x other z : ℕ} → OnSheet x other z → side_tree kind other z ≡ side_tree kind other (counted kind z)
+pub side_counted : (kind : ℕ) {x y z : ℕ} → OnSheet x y z → side_tree kind y z ≡ side_tree kind y (counted kind z)
 side_counted = kinds_same x_gets (λ kind x y z. side_tree kind y (counted kind z)) z_counted z_counted_above
-
--- a number that is neither AND's nor OR's
-pub z_none : (kind : ℕ) → (Unit {0} × (kind ≡ 3 → ⊥)) × (kind ≡ 4 → ⊥) → (x y : ℕ) → z_tree kind x y ≡ 2
-z_none kind none x y = at (ℕ_discrete kind 1) (ℕ_discrete kind 2)
-  where
-    at : Dec (kind ≡ 1) → Dec (kind ≡ 2) → z_tree kind x y ≡ 2
-    at (yes e) d = rw e
-    at (no e) (yes e') = rw e'
-    at (no e) (no e') = ap (λ (f : (x y : ℕ) → ℕ). f x y) (number_none _ _ _ _ _ kind ((((tt, e), e'), none.0.1), none.1))

@@ -8,24 +8,25 @@ ghost use Rattle.engine.specs.Moves.{Cells};
 ghost use Rattle.why.specs.Given.{given_alone};
 ghost use Rattle.whylists.specs.Lines.{given_by};
 
-use records::kinds::{AND, EQU, NOT, OR, has_z};
+use records::kinds::{Kind, has_z};
 use records::states::{IN, OPEN, OUT};
 use records::{Record, is_rule};
 
 // What x gets from y and z, and y from x and z: the rules are alike for both.
+#[tactic(auto, using(crate::proofs::Trees::side_given, std::proofs::lemmas::Bool::Decides::nat_tests))]
 fn given_side(kind: u8, other: u8, z: u8) -> u8
     requires { OnSheet 2 other z }
     ensures value { result ≡ given_alone 0 kind 2 other z }
     ensures upper_bound { result ≤ 2 }
 {
-    match kind {
-        EQU => other, // EQU 1 to 4
-        NOT => match other {
+    match Kind::try_from(kind) {
+        Ok(Kind::Equ) => other, // EQU 1 to 4
+        Ok(Kind::Not) => match other {
             OUT => IN, // NOT 2, 4
             IN => OUT, // NOT 1, 3
             _ => OPEN,
         },
-        AND => match z {
+        Ok(Kind::And) => match z {
             IN => IN, // AND 6
             OUT => match other {
                 IN => OUT, // AND 2, 3
@@ -33,7 +34,7 @@ fn given_side(kind: u8, other: u8, z: u8) -> u8
             },
             _ => OPEN,
         },
-        OR => match z {
+        Ok(Kind::Or) => match z {
             OUT => OUT, // OR 6
             IN => match other {
                 OUT => IN, // OR 3, 4
@@ -41,18 +42,19 @@ fn given_side(kind: u8, other: u8, z: u8) -> u8
             },
             _ => OPEN,
         },
-        _ => OPEN,
+        Err(_) => OPEN,
     }
 }
 
 // What z gets from x and y.
+#[tactic(auto, using(crate::proofs::Trees::z_given, std::proofs::lemmas::Bool::Decides::nat_tests))]
 fn given_z(kind: u8, x: u8, y: u8) -> u8
     requires { OnSheet x y 2 }
     ensures value { result ≡ given_alone 2 kind x y 2 }
     ensures upper_bound { result ≤ 2 }
 {
-    match kind {
-        AND => match x {
+    match Kind::try_from(kind) {
+        Ok(Kind::And) => match x {
             OUT => OUT, // AND 4
             IN => y, // AND 1, 5
             _ => match y {
@@ -60,7 +62,7 @@ fn given_z(kind: u8, x: u8, y: u8) -> u8
                 _ => OPEN,
             },
         },
-        OR => match x {
+        Ok(Kind::Or) => match x {
             IN => IN, // OR 1
             OUT => y, // OR 2, 5
             _ => match y {
@@ -68,11 +70,12 @@ fn given_z(kind: u8, x: u8, y: u8) -> u8
                 _ => OPEN,
             },
         },
-        _ => OPEN,
+        Ok(Kind::Equ | Kind::Not) | Err(_) => OPEN,
     }
 }
 
 // What one rule of the record gives box b; open where none gives it a state. What stands at a z that is missing is of no matter.
+#[tactic(auto, using(theory::proofs::Places::good_x, theory::proofs::Places::good_y))]
 pub fn given(q: Record, states: &[u8; 256], b: usize) -> u8
     requires q_value { bad 256 (as_rec q) ≡ false }
     requires cells { Cells states.now }
@@ -82,20 +85,14 @@ pub fn given(q: Record, states: &[u8; 256], b: usize) -> u8
     if !is_rule(q) {
         return OPEN;
     }
-    let kind = q.kind;
-    let x = q.x;
-    let y = q.y;
     let z = q.z % 256;
-    if b == x {
-        return given_side(kind, states[y], states[z]);
+    if b == q.x {
+        given_side(q.kind, states[q.y], states[z])
+    } else if b == q.y {
+        given_side(q.kind, states[q.x], states[z])
+    } else if has_z(q.kind) && b == z {
+        given_z(q.kind, states[q.x], states[q.y])
+    } else {
+        OPEN
     }
-    if b == y {
-        return given_side(kind, states[x], states[z]);
-    }
-    if has_z(kind) {
-        if b == z {
-            return given_z(kind, states[x], states[y]);
-        }
-    }
-    OPEN
 }

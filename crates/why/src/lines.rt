@@ -5,7 +5,7 @@ ghost use Rattle.why.specs.Read.{as_line};
 
 use records::word;
 
-#[derive(Clone, Copy)]
+#[derive(Clone, Copy, Debug, PartialEq, Eq)]
 pub struct Reason {
     pub b: usize,
     pub state: u8,

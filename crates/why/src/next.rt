@@ -1,19 +1,19 @@
 // The next line of our list: the lowest box that now follows, by the lowest record that gives it.
-ghost use Rattle.std.specs.Prelude.{◌≡◌, false, ◌≤◌, ◌<◌};
+ghost use Rattle.std.specs.Prelude.{◌≡◌, false, ◌<◌};
 ghost use Rattle.lemmas.specs.Lowest.{lowest};
 ghost use Rattle.spec.specs.Records.{bad, record_count};
-ghost use Rattle.spec.proofs.Accepted.{Accepted};
 ghost use Rattle.records.specs.Record.{as_rec};
 ghost use Rattle.engine.specs.Moves.{Cells};
-ghost use Rattle.why.specs.Next.{offers, Offered, LowestGiven};
+ghost use Rattle.why.specs.Next.{offers, Offered, NextGiven};
 
 use crate::given::given;
 use fire::at_rest;
+use records::Record;
 use records::kinds::has_z;
 use records::states::OPEN;
-use records::{Record, count, record_at};
+use tables::Tables;
 
-#[derive(Clone, Copy)]
+#[derive(Clone, Copy, Debug, PartialEq, Eq)]
 pub struct Next {
     pub b: usize,
     pub number: usize,
@@ -26,56 +26,47 @@ fn offer(q: Record, states: &[u8; 256], c: usize, best: usize) -> usize
     requires c_bound { c < 256 }
     ensures { Offered states.now (as_rec q) c best result }
 {
-    if best <= c {
-        return best;
+    if c < best && states[c] == OPEN && given(q, states, c) != OPEN {
+        c
+    } else {
+        best
     }
-    if states[c] != OPEN {
-        return best;
-    }
-    if given(q, states, c) == OPEN {
-        return best;
-    }
-    c
 }
 
-// The lowest box below a bound that the record gives a state, or the bound. A record at rest, as most are, is told by a look.
+// The lowest box below a bound that the record gives a state, or the bound, which the boxes of the next record go below as well.
+// A record at rest, as most are, is told by a look.
+#[tactic(auto, using(theory::proofs::Places::good_x, theory::proofs::Places::good_y))]
 fn lowest_given(q: Record, states: &[u8; 256], below: usize) -> usize
     requires q_value { bad 256 (as_rec q) ≡ false }
     requires cells { Cells states.now }
     ensures { result ≡ lowest (offers states.now (as_rec q)) below }
 {
-    let kind = q.kind;
-    let x = q.x;
-    let y = q.y;
     let z = q.z % 256;
-    if at_rest(kind, states[x], states[y], states[z]) {
+    if at_rest(q.kind, states[q.x], states[q.y], states[z]) {
         return below;
     }
-    let by_x = offer(q, states, x, below);
-    let by_y = offer(q, states, y, by_x);
-    if has_z(kind) {
+    let by_x = offer(q, states, q.x, below);
+    let by_y = offer(q, states, q.y, by_x);
+    if has_z(q.kind) {
         return offer(q, states, z, by_y);
     }
     by_y
 }
 
-// The lowest box that now follows, and the lowest record that gives it; n where none follows.
-pub fn next_line<'a>(maker: &'a [u8], depot: &'a [u8], n: usize, states: &[u8; 256]) -> Next
-    requires accepted { Accepted n maker.now depot.now }
-    requires cells { Cells states.now }
-    ensures { LowestGiven maker.now depot.now states.now n (record_count maker.now depot.now) result.b result.number }
+// The lowest box that now follows, and the lowest record that gives it.
+pub fn next_line(t: Tables, states: &[u8; 256]) -> Option<Next>
+    requires { Cells states.now }
+    ensures { NextGiven t.entry.maker.now t.entry.depot.now states.now t.entry.n
+        (record_count t.entry.maker.now t.entry.depot.now) result }
 {
-    let all = count(maker, depot);
-    let mut b = n;
-    let mut number = 0;
-    let mut i = 0;
-    while i < all {
-        let c = lowest_given(record_at(maker, depot, i), states, b);
-        if c < b {
-            b = c;
-            number = i;
+    let mut next = None;
+    let mut below = t.n;
+    for number in 0..t.records() {
+        let b = lowest_given(t.record(number), states, below);
+        if b < below {
+            next = Some(Next { b, number });
+            below = b;
         }
-        i += 1;
     }
-    Next { b, number }
+    next
 }

@@ -1,41 +1,31 @@
 -- `why::check::first_wrong` meets its contract: line by line, until one is wrong.
 -- Assumes nothing.
 use mathlib.Core.Path.{◌≡◌, sym, ap, subst⁻¹, ◌∙◌}
-use mathlib.Core.Bool.{Bool, true, false, not}
+use mathlib.Core.Bool.{true, not}
 use mathlib.Core.List.{List}
-use Prim.Native.Nat.{ℕ, ◌+◌, ◌/◌, ◌<◌}
+use Prim.Native.Nat.{ℕ, ◌+◌, ◌<◌}
 use native.Mathlib.Omega.{arith}
-use lib.ListN.{length, set}
-use Rattle.lemmas.specs.Lowest.{lowest}
-use Rattle.lemmas.proofs.Lowest.{searched_found, searched_all}
+use lib.ListN.{set}
+use Rattle.accept.proofs.Search.{lowest_found, none_found}
 use Rattle.spec.proofs.Accepted.{AcceptedSheet}
 use Rattle.whylists.specs.Lines.{Line, line_at, line_count, right}
 use Rattle.why.specs.Read.{right_on}
 use Rattle.whylists.proofs.Known.{is_right, right_within}
-use Rattle.why.proofs.Checking.{Checked, wrong, right_same, checked_next}
+use Rattle.why.proofs.Checking.{Checked, right_same, checked_next}
 use Rattle.why.proofs.check.first_wrong.Goals as goal
 
--- the check has come to line k, which has been read and judged
+-- the check has come to line k, which has been read
 module _ (maker depot sheet l : List ℕ) {n : ℕ} (accepted : AcceptedSheet n maker depot sheet) {s : List ℕ} {k : ℕ}
-    (so : Checked maker depot sheet l s k) (below : k < length l / 8) (a : Line) (read : a ≡ line_at l k)
-    (judged : Bool) (says : judged ≡ right_on maker depot n s a) where
-  counted : k < line_count l
-  unfolding line_count
-  counted = below
-
-  told : judged ≡ right maker depot sheet l k
+    (so : Checked maker depot sheet l s k) (a : Line) (read : a ≡ line_at l k) where
+  told : right_on maker depot n s a ≡ right maker depot sheet l k
   told =
-      says
-      ∙ ap (λ (line : Line). right_on maker depot n s line) read
+      ap (λ (line : Line). right_on maker depot n s line) read
       ∙ ap (λ (m : ℕ). right_on maker depot m s (line_at l k)) (sym accepted.sheet_length)
       ∙ right_same maker depot sheet l so
 
-  wrong_found : judged ≡ false → k ≡ lowest (wrong maker depot sheet l) (line_count l)
-  wrong_found e = searched_found so.searched counted (ap not (sym told ∙ e))
-
-  module _ (e : judged ≡ true) where
+  module _ (e : true ≡ right_on maker depot n s a) where
     is : right maker depot sheet l k ≡ true
-    is = sym told ∙ e
+    is = sym told ∙ sym e
 
     box_below : a.box < 256
     box_below =
@@ -45,23 +35,20 @@ module _ (maker depot sheet l : List ℕ) {n : ℕ} (accepted : AcceptedSheet n 
     one_more : Checked maker depot sheet l (set s a.box a.state) (k + 1)
     one_more =
         subst⁻¹ (λ (r : Line). Checked maker depot sheet l (set s r.box r.state) (k + 1)) read
-        (checked_next maker depot sheet l so counted is (omega (arith, accepted.sheet_length, accepted.tables.boxes)))
+        (checked_next maker depot sheet l so is (omega (arith, accepted.sheet_length, accepted.tables.boxes)))
 
 pub returns-then-not-is_right : goal.returns-then-not-is_right
+unfolding line_count
 returns-then-not-is_right c =
-    wrong_found c.args.maker.now c.args.depot.now c.args.sheet.now c.args.lines.now c.requires.accepted_sheet c.loop-k.invariant (omega arith)
-    _ c.line_at-a.ensures c.is_right.result c.is_right.ensures c.if-not-is_right.true
+    let same = told _ _ _ _ c.requires.accepted_sheet c.loop-k.invariant _ c.line_at-a.ensures in
+    lowest_found _ _ _ (omega arith) (ap not (sym same ∙ sym c.if-not-is_right.ensures)) c.loop-k.invariant.none
 
-pub bounds-states-b : goal.bounds-states-b
-bounds-states-b c =
-    box_below c.args.maker.now c.args.depot.now c.args.sheet.now c.args.lines.now c.requires.accepted_sheet c.loop-k.invariant (omega arith)
-    _ c.line_at-a.ensures c.is_right.result c.is_right.ensures c.if-not-is_right.false
+pub bounds-states-a : goal.bounds-states-a
+bounds-states-a c = box_below _ _ _ _ c.requires.accepted_sheet c.loop-k.invariant _ c.line_at-a.ensures c.if-not-is_right.ensures
 
 pub loop-k-preserved : goal.loop-k-preserved
-loop-k-preserved c =
-    one_more c.args.maker.now c.args.depot.now c.args.sheet.now c.args.lines.now c.requires.accepted_sheet c.loop-k.invariant (omega arith)
-    _ c.line_at-a.ensures c.is_right.result c.is_right.ensures c.if-not-is_right.false
+loop-k-preserved c = one_more _ _ _ _ c.requires.accepted_sheet c.loop-k.invariant _ c.line_at-a.ensures c.if-not-is_right.ensures
 
 pub returns : goal.returns
 unfolding line_count
-returns c = searched_all c.loop-k.invariant.searched (omega arith)
+returns c = none_found _ _ (λ j h. c.loop-k.invariant.none j (omega arith))

@@ -11,54 +11,42 @@ use Rattle.spec.specs.Records.{Rec, bad}
 use Rattle.records.specs.Record.{as_rec}
 use Rattle.engine.specs.Moves.{Cells}
 use Rattle.theory.specs.Steps.{z_missing}
-use Rattle.theory.proofs.Places.{good_x, good_y, good_z}
+use Rattle.theory.proofs.Places.{good_z}
 use Rattle.why.specs.Next.{offers, Offered}
-use Rattle.why.proofs.Offers.{low_start, low_next, low_lowest, offers_all, looked, offers_rest}
+use Rattle.why.proofs.Asked.{looked}
+use Rattle.why.proofs.Offers.{low_start, low_next, low_lowest, offers_all, offers_rest}
 use Rattle.why.proofs.next.lowest_given.Goals as goal
 
 -- x and y have been offered, and after them z where it is there
-module _ (q : Rec) (s : List ℕ) (good : bad 256 q ≡ false) (cells : Cells s) {below by_x by_y : ℕ}
+module _ (q : Rec) {s : List ℕ} (good : bad 256 q ≡ false) (cells : Cells s) {below by_x by_y : ℕ}
     (first : Offered s q q.x below by_x) (second : Offered s q q.y by_x by_y) where
-  lowest_two : (z_missing q ≡ false → ⊥) → by_y ≡ lowest (offers s q) below
+  lowest_two : z_missing q ≡ true → by_y ≡ lowest (offers s q) below
   lowest_two missing =
       low_lowest (low_next (low_next low_start first) second)
-      (offers_all q s good cells (λ h. first.passed (omega (arith, second.within))) second.passed (λ is h. absurd (missing is)))
+      (offers_all q good cells (λ h. first.passed (omega (arith, second.within))) second.passed
+      (λ is. absurd (true≢false (sym missing ∙ is))))
 
   lowest_three : z_missing q ≡ false → {by_z : ℕ} → Offered s q (q.z % 256) by_y by_z → by_z ≡ lowest (offers s q) below
   lowest_three there third =
       let within = good_z 256 q good there in
       let same : q.z % 256 ≡ q.z = omega (arith, within) in
       low_lowest (low_next (low_next (low_next low_start first) second) third)
-      (offers_all q s good cells (λ h. first.passed (omega (arith, second.within, third.within))) (λ h. second.passed (omega (arith, third.within)))
+      (offers_all q good cells (λ h. first.passed (omega (arith, second.within, third.within))) (λ h. second.passed (omega (arith, third.within)))
       (λ is h. subst (λ (b : ℕ). offers s q b ≡ false) same (third.passed (omega (arith, same, h)))))
 
-pub bounds-states-x : goal.bounds-states-x
-bounds-states-x c = good_x 256 (as_rec c.args.q) c.requires.q_value
-
-pub bounds-states-y : goal.bounds-states-y
-bounds-states-y c = good_y 256 (as_rec c.args.q) c.requires.q_value
-
 pub at_rest-requires : goal.at_rest-requires
-at_rest-requires c = looked (as_rec c.args.q) c.args.states.now c.requires.q_value c.requires.cells
+at_rest-requires c = looked _ c.requires.q_value c.requires.cells
 
 pub returns-then-at_rest : goal.returns-then-at_rest
 returns-then-at_rest c =
-    low_lowest low_start
-    (λ b h. offers_rest (as_rec c.args.q) c.args.states.now c.requires.q_value c.requires.cells (c.at_rest.ensures c.if-at_rest.true) b)
-
-pub offer-by_x-requires-clause-c_bound : goal.offer-by_x-requires-clause-c_bound
-offer-by_x-requires-clause-c_bound c = good_x 256 (as_rec c.args.q) c.requires.q_value
-
-pub offer-by_y-requires-clause-c_bound : goal.offer-by_y-requires-clause-c_bound
-offer-by_y-requires-clause-c_bound c = good_y 256 (as_rec c.args.q) c.requires.q_value
+    low_lowest low_start (λ b h. offers_rest _ c.requires.q_value c.requires.cells (c.at_rest.ensures c.if-at_rest.true) b)
 
 pub returns-then-has_z : goal.returns-then-has_z
 returns-then-has_z c =
-    let there : z_missing (as_rec c.args.q) ≡ false = not-true _ (sym c.has_z.ensures ∙ c.if-has_z.true) in
-    lowest_three (as_rec c.args.q) c.args.states.now c.requires.q_value c.requires.cells c.offer-by_x.ensures c.offer-by_y.ensures there c.offer.ensures
+    lowest_three (as_rec c.args.q) c.requires.q_value c.requires.cells c.offer-by_x.ensures c.offer-by_y.ensures
+    (not-true _ (sym c.has_z.ensures ∙ c.if-has_z.true)) c.offer.ensures
 
 pub returns : goal.returns
 returns c =
-    let missing : z_missing (as_rec c.args.q) ≡ true = not-false _ (sym c.has_z.ensures ∙ c.if-has_z.false) in
-    lowest_two (as_rec c.args.q) c.args.states.now c.requires.q_value c.requires.cells c.offer-by_x.ensures c.offer-by_y.ensures
-    (λ is. true≢false (sym missing ∙ is))
+    lowest_two (as_rec c.args.q) c.requires.q_value c.requires.cells c.offer-by_x.ensures c.offer-by_y.ensures
+    (not-false _ (sym c.has_z.ensures ∙ c.if-has_z.false))

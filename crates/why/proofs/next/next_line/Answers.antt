@@ -2,24 +2,21 @@
 -- Assumes nothing.
 use native.Mathlib.Omega.{arith}
 use Rattle.spec.proofs.Accepted.{accepted_all}
-use Rattle.why.proofs.Offers.{given_lower, given_kept}
-use Rattle.why.proofs.next.next_line.Goals.{then-c-b, else-c-b}
+use Rattle.why.proofs.Offers.{so_lower, so_kept}
+use Rattle.why.proofs.next.next_line.Goals.{then-b-below, else-b-below}
 use Rattle.why.proofs.next.next_line.Goals as goal
 
-pub lowest_given-c-requires-clause-q_value : goal.lowest_given-c-requires-clause-q_value
-lowest_given-c-requires-clause-q_value c =
-    rw c.record_at.ensures ((accepted_all c.requires.accepted).good _ (omega (arith, c.count-all.ensures)))
+pub lowest_given-b-requires-clause-q_value : goal.lowest_given-b-requires-clause-q_value
+lowest_given-b-requires-clause-q_value c = rw c.record.ensures ((accepted_all c.args.t.accepted).good _ (omega arith))
 
-pub loop-i-preserved : goal.loop-i-preserved
-loop-i-preserved c =
-    let a = c.args in
-    let so = c.loop-i.invariant.given in
-    let found = rw c.record_at.ensures at c.lowest_given-c.ensures in
-    record {
-      within = omega arith;
-      given =
-          elim c.if-c-b.branch [
-            | then-c-b w ↦ rw (w.b-is, w.number-is) (given_lower a.maker.now a.depot.now a.states.now a.n so found w.if-c-b.true)
-            | else-c-b w ↦ rw (w.b-is, w.number-is) (given_kept a.maker.now a.depot.now a.states.now a.n so found w.if-c-b.false)
-          ];
-    }
+pub loop-number-preserved : goal.loop-number-preserved
+loop-number-preserved c =
+    let t = c.args.t in
+    let so = c.loop-number in
+    let found = rw c.record.ensures at c.lowest_given-b.ensures in
+    elim c.if-b-below.branch [
+      | then-b-below w ↦
+          rw (w.next-is, w.below-is) (so_lower t.maker.now t.depot.now c.args.states.now t.n _ _ so.next so.invariant _ found w.if-b-below.true)
+      | else-b-below w ↦
+          rw (w.next-is, w.below-is) (so_kept t.maker.now t.depot.now c.args.states.now t.n _ _ so.next so.invariant _ found w.if-b-below.false)
+    ]

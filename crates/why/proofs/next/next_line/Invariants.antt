@@ -1,10 +1,6 @@
--- What the first i records give.
-use Prim.Native.Nat.{◌-◌, ◌≤◌}
-use Rattle.why.specs.Next.{LowestGiven}
+-- What the records so far give.
+use Rattle.why.proofs.Offers.{SoFar}
 use Rattle.why.proofs.next.next_line.Given as goal
 
-abbrev pub invariant-loop-i : goal.invariant-loop-i
-invariant-loop-i l = record { within : l.i ≤ l.all; given : LowestGiven l.maker l.depot l.states l.n l.i l.b l.number }
-
-abbrev pub decreases-loop-i : goal.decreases-loop-i
-decreases-loop-i l = l.all - l.i
+abbrev pub invariant-loop-number : goal.invariant-loop-number
+invariant-loop-number l = SoFar l.t.maker.now l.t.depot.now l.states l.t.n l.number l.below l.next
