@@ -6,7 +6,7 @@ use mathlib.Core.List.{List}
 use Prim.Native.Nat.{ℕ, ◌+◌, ◌<◌}
 use native.Mathlib.Omega.{arith}
 use lib.ListN.{set}
-use Rattle.accept.proofs.Search.{lowest_found, none_found}
+use Rattle.lemmas.proofs.Lowest.{if_found, if_none}
 use Rattle.spec.proofs.Accepted.{AcceptedSheet}
 use Rattle.whylists.specs.Lines.{Line, line_at, line_count, right}
 use Rattle.why.specs.Read.{right_on}
@@ -41,7 +41,7 @@ pub returns-then-not-is_right : goal.returns-then-not-is_right
 unfolding line_count
 returns-then-not-is_right c =
     let same = told _ _ _ _ c.requires.accepted_sheet c.loop-k.invariant _ c.line_at-a.ensures in
-    lowest_found _ _ _ (omega arith) (ap not (sym same ∙ sym c.if-not-is_right.ensures)) c.loop-k.invariant.none
+    if_found _ _ _ (omega arith) (ap not (sym same ∙ sym c.if-not-is_right.ensures)) c.loop-k.invariant.none
 
 pub bounds-states-a : goal.bounds-states-a
 bounds-states-a c = box_below _ _ _ _ c.requires.accepted_sheet c.loop-k.invariant _ c.line_at-a.ensures c.if-not-is_right.ensures
@@ -51,4 +51,4 @@ loop-k-preserved c = one_more _ _ _ _ c.requires.accepted_sheet c.loop-k.invaria
 
 pub returns : goal.returns
 unfolding line_count
-returns c = none_found _ _ (λ j h. c.loop-k.invariant.none j (omega arith))
+returns c = if_none _ _ (λ j h. c.loop-k.invariant.none j (omega arith))
