@@ -1,13 +1,9 @@
 -- The code's matches as definitions that compute: a tree of tests for each kind, in the code's order.
 -- Assumes nothing.
-use mathlib.Core.Path.{◌≡◌}
 use mathlib.Core.Bool.{Bool, cond}
-use mathlib.Core.List.{List, [], ◌∷◌}
-use Prim.Native.Nat.{ℕ, ◌<◌}
-use native.Mathlib.Decide.{dec_lt}
-use native.Mathlib.Omega.{arith}
+use mathlib.Core.List.{List}
+use Prim.Native.Nat.{ℕ}
 use lib.Dec.{eqb}
-use lib.ListN.{get_or, get_or-eq_default}
 use Rattle.spec.specs.Kinds.{Kind, EQU, NOT, AND, OR, other, kind_of}
 use Rattle.fire.specs.States.{three}
 
@@ -60,16 +56,3 @@ tree_of other = three
 
 abbrev pub tree : ℕ → Step
 tree kind = tree_of (kind_of kind)
-
--- the number is no kind, as the code's last arm has it
-abbrev pub NoKind : ℕ → Type 0
-NoKind kind = (((Unit {0} × (kind ≡ 1 → ⊥)) × (kind ≡ 2 → ⊥)) × (kind ≡ 3 → ⊥)) × (kind ≡ 4 → ⊥)
-
--- what stands there in a list by the kinds' numbers
-pub number_none : {A : Type 0} (none equ not and or : A) (kind : ℕ) → NoKind kind →
-    get_or (none ∷ equ ∷ not ∷ and ∷ or ∷ []) kind none ≡ none
-number_none none equ not and or kind differs = at (dec_lt kind 5)
-  where
-    at : Dec (kind < 5) → get_or (none ∷ equ ∷ not ∷ and ∷ or ∷ []) kind none ≡ none
-    at (yes l) = let e : kind ≡ 0 = omega arith in rw e
-    at (no l) = get_or-eq_default (none ∷ equ ∷ not ∷ and ∷ or ∷ []) none {n = kind} (omega arith)
