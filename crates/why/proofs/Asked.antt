@@ -1,10 +1,11 @@
 -- What a record gives a box, as the code asks: by the box's place in the record, from the states of the record's other boxes.
 -- Assumes nothing.
 use mathlib.Core.Path.{◌≡◌, refl, sym, ◌∙◌}
-use mathlib.Core.Bool.{Bool, true, false, cond}
+use mathlib.Core.Bool.{Bool, true, false, cond, true≢false}
 use mathlib.Core.List.{List}
 use Prim.Native.Nat.{ℕ, ◌%◌, ◌≤◌, ◌<◌}
 use native.Mathlib.Omega.{arith}
+use Rattle.std.proofs.lemmas.Bool.Decides.{nat_tests}
 use lib.Dec.{T, T_not}
 use lib.ListN.{get_or}
 use Rattle.lemmas.proofs.Tests.{false_T}
@@ -111,3 +112,13 @@ module _ (q : Rec) {s : List ℕ} (good : bad 256 q ≡ false) (cells : Cells s)
         other X m e = ¬x (sym e)
         other Y m e = ¬y (sym e)
         other Z m e = ¬z (false_T (z_missing q) (T_not (z_missing q) (names_named q (good_kind 256 q good) Z m))) (sym e)
+
+    -- where the record has a z, and where it has none
+    pub asked_other : z_missing q ≡ false → (b : ℕ) → (b ≡ q.x → ⊥) → (b ≡ q.y → ⊥) → (b ≡ q.z % 256 → ⊥) → given_code q s b ≡ 2
+    asked_other there b ¬x ¬y ¬z = asked_none b ¬x ¬y (λ is e. ¬z (omega (arith, good_z 256 q good is)))
+
+    pub asked_pair : z_missing q ≡ true → (b : ℕ) → (b ≡ q.x → ⊥) → (b ≡ q.y → ⊥) → given_code q s b ≡ 2
+    asked_pair missing b ¬x ¬y = asked_none b ¬x ¬y (λ is. absurd (true≢false (sym missing ∙ is)))
+
+-- what the tests of a box tell
+pub ruleset asked = (asked_passed, asked_x, asked_y, asked_z, asked_other, asked_pair, nat_tests)

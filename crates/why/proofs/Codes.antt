@@ -6,26 +6,24 @@ use mathlib.Core.List.{List}
 use Prim.Native.Nat.{ℕ, zero, suc, ◌≤◌}
 use native.Mathlib.Omega.{arith}
 use lib.Dec.{eqb}
+use Rattle.std.proofs.lemmas.Bool.Decides.{nat_tests}
 use Rattle.spec.specs.Records.{Rec}
 use Rattle.spec.specs.Rounds.{code}
+use Rattle.engine.proofs.Settled.{cells_read}
 use Rattle.whylists.specs.Lines.{given_by}
 
-code_says : (f : Bool → Bool) (g state : ℕ) → g ≡ code (f false) (f true) → g ≤ 2 → state ≤ 1 → eqb g state ≡ f (eqb state 1)
+told : (out in' : Bool) (g : ℕ) → g ≡ code out in' → g ≤ 2 → (eqb g 0 ≡ out) × (eqb g 1 ≡ in')
 unfolding code
-code_says f g state e low small = at (f false) (f true) refl refl state small
-  where
-    at : (o i : Bool) → f false ≡ o → f true ≡ i → (v : ℕ) → v ≤ 1 → eqb g v ≡ f (eqb v 1)
-    at true true is_out is_in v l = absurd (omega (arith, (rw (is_out, is_in) at e), low))
-    at true false is_out is_in zero l = rw (e, is_out, is_in)
-    at true false is_out is_in (suc zero) l = rw (e, is_out, is_in)
-    at true false is_out is_in (suc (suc v)) l = absurd (omega arith)
-    at false true is_out is_in zero l = rw (e, is_out, is_in)
-    at false true is_out is_in (suc zero) l = rw (e, is_out, is_in)
-    at false true is_out is_in (suc (suc v)) l = absurd (omega arith)
-    at false false is_out is_in zero l = rw (e, is_out, is_in)
-    at false false is_out is_in (suc zero) l = rw (e, is_out, is_in)
-    at false false is_out is_in (suc (suc v)) l = absurd (omega arith)
+told true true g e low = absurd (omega (arith, e, low))
+told true false g e low = (rw e, rw e)
+told false true g e low = (rw e, rw e)
+told false false g e low = (rw e, rw e)
 
 pub given_says : (s : List ℕ) (b : ℕ) (q : Rec) (g state : ℕ) → g ≡ code (given_by s b false q) (given_by s b true q) → g ≤ 2 → state ≤ 1 →
     eqb g state ≡ given_by s b (eqb state 1) q
-given_says s b q = code_says (λ (state : Bool). given_by s b state q)
+given_says s b q g zero e low small = (told _ _ g e low).0
+given_says s b q g (suc zero) e low small = (told _ _ g e low).1
+given_says s b q g (suc (suc v)) e low small = absurd (omega arith)
+
+-- what the tests of a line tell
+pub ruleset line_tests = (given_says, cells_read, nat_tests)

@@ -9,7 +9,7 @@ use lib.Seq.{sets-eq}
 use Rattle.std.specs.Prelude.{Result, Ok, Err}
 use Rattle.lemmas.proofs.Tests.{true_T}
 use Rattle.spec.specs.Records.{rules_in}
-use Rattle.spec.specs.Refusals.{Said, written, passed, judge, sheet_checks, out_check}
+use Rattle.spec.specs.Refusals.{Said, Check, written, passed, judge, sheet_checks, out_check}
 use Rattle.spec.specs.Fill.{closure_of, clash_check, clashes}
 use borrow.Author.Tests.{eqb-true, not-false}
 use Rattle.spec.proofs.Judge.{judge_passed, judge_refused, judge_passes, judge_left, judge_right, does_refused, does_passed}
@@ -27,22 +27,29 @@ use Rattle.whylists.specs.Says.{why_checks, why_judges, why_says, why_writes, wh
 use Rattle.why.specs.Made.{Made}
 use Rattle.why.specs.Answer.{explained_says, vetted_says, WhyDoes, WhyDoesInForm}
 
+-- the buffer with our list at its head
+abbrev with_ours : (maker depot sheet out : List ℕ) → List ℕ
+with_ours maker depot sheet out = at_head (lines_bytes (ours maker depot sheet)) out
+
 -- the engine has run from the sheet's states
-module _ {n : ℕ} (maker depot sheet out : List ℕ) {states : List ℕ} (known : AcceptedSheet n maker depot sheet) (loaded : Loaded sheet states) where
+module _ {n : ℕ} (maker depot sheet out : List ℕ) {states : List ℕ} (known : AcceptedSheet n maker depot sheet)
+    (loaded : Loaded sheet states) where
   -- what is said decides what is written
   does : (answer : Result ℕ Refusal) {left : List ℕ} → why_judges maker depot sheet ≡ explained_says answer →
-      left ≡ written (explained_says answer) (at_head (lines_bytes (ours maker depot sheet)) out) out → WhyDoesInForm maker depot sheet out answer left
+      left ≡ written (explained_says answer) (with_ours maker depot sheet out) out →
+      WhyDoesInForm maker depot sheet out answer left
   does answer e left =
-      record { says = sym e; writes = left ∙ ap (λ (s : Said ℕ). written s (at_head (lines_bytes (ours maker depot sheet)) out) out) (sym e) }
+      record { says = sym e; writes = left ∙ ap (λ (s : Said ℕ). written s (with_ours maker depot sheet out) out) (sym e) }
 
   pub clashed : SomeClash (rules_in maker depot) states → WhyDoesInForm maker depot sheet out (Err Clash) out
   unfolding why_judges clash_check
   clashed clash =
       let own : AcceptedSheet (length sheet) maker depot sheet = rw known.sheet_length known in
-      does (Err Clash)
-      (rw (true_T (clashes (closure_of maker depot sheet)) (clash_finds maker depot sheet own (loaded_clash loaded _ clash.0 clash.1)))) refl
+      let found = clash_finds maker depot sheet own (loaded_clash loaded _ clash.0 clash.1) in
+      does (Err Clash) (rw (true_T (clashes (closure_of maker depot sheet)) found)) refl
 
-  pub explained : length out ≡ 8 * n → {rest : List ℕ} → Grown (rules_in maker depot) states rest × AllStable (rules_in maker depot) rest →
+  pub explained : length out ≡ 8 * n →
+      {rest : List ℕ} → Grown (rules_in maker depot) states rest × AllStable (rules_in maker depot) rest →
       {out' : List ℕ} {k : ℕ} → Made maker depot sheet out out' k → WhyDoesInForm maker depot sheet out (Ok k) out'
   unfolding why_judges clash_check ours
   explained size (grown, stable) {out'} {k} made =
@@ -66,29 +73,32 @@ module _ (maker depot sheet : List ℕ) where
     unfolding why_check_says
     vet_refused why e = sym (judge_refused (sheet_checks maker depot sheet) (why_check_judges maker depot sheet lines) (sym e))
 
-    pub vet_passed : passed ≡ judge (sheet_checks maker depot sheet) passed → why_check_judges maker depot sheet lines ≡ why_check_says maker depot sheet lines
+    pub vet_passed : passed ≡ judge (sheet_checks maker depot sheet) passed →
+        why_check_judges maker depot sheet lines ≡ why_check_says maker depot sheet lines
     unfolding why_check_says
     vet_passed e = sym (judge_passed (sheet_checks maker depot sheet) (why_check_judges maker depot sheet lines) (sym e))
 
   module _ (out : List ℕ) where
-    pub why_refused : (why : Refusal) → form_says (Err why) ≡ judge (why_checks maker depot sheet out) passed → WhyDoes maker depot sheet out (Err why) out
+    pub why_refused : (why : Refusal) → form_says (Err why) ≡ judge (why_checks maker depot sheet out) passed →
+        WhyDoes maker depot sheet out (Err why) out
     unfolding why_says why_writes
     why_refused why e =
-        does_refused (why_checks maker depot sheet out) (why_judges maker depot sheet) (at_head (lines_bytes (ours maker depot sheet)) out) out (sym e)
+        does_refused (why_checks maker depot sheet out) (why_judges maker depot sheet) (with_ours maker depot sheet out) out (sym e)
 
     -- the maker's checks have passed
     module _ (e : passed ≡ judge (why_checks maker depot sheet out) passed) where
+      abbrev last : List Check
+      last = out_check (8 * length sheet) out ∷ []
+
       pub why_sheet : AcceptedSheet (length sheet) maker depot sheet
-      why_sheet = sheet_accepted maker depot sheet (judge_left (sheet_checks maker depot sheet) (out_check (8 * length sheet) out ∷ []) (sym e))
+      why_sheet = sheet_accepted maker depot sheet (judge_left (sheet_checks maker depot sheet) last (sym e))
 
       pub why_out : length out ≡ 8 * length sheet
       unfolding out_check
-      why_out =
-          eqb-true _ _
-          (not-false _
-          (judge_passes (out_check (8 * length sheet) out ∷ []) (judge_right (sheet_checks maker depot sheet) (out_check (8 * length sheet) out ∷ []) (sym e))).0)
+      why_out = eqb-true _ _ (not-false _ (judge_passes last (judge_right (sheet_checks maker depot sheet) last (sym e))).0)
 
-      pub why_passed : (answer : Result ℕ Refusal) (left : List ℕ) → WhyDoesInForm maker depot sheet out answer left → WhyDoes maker depot sheet out answer left
+      pub why_passed : (answer : Result ℕ Refusal) (left : List ℕ) → WhyDoesInForm maker depot sheet out answer left →
+          WhyDoes maker depot sheet out answer left
       unfolding why_says why_writes
       why_passed answer left =
-          does_passed (why_checks maker depot sheet out) (why_judges maker depot sheet) (at_head (lines_bytes (ours maker depot sheet)) out) out (sym e)
+          does_passed (why_checks maker depot sheet out) (why_judges maker depot sheet) (with_ours maker depot sheet out) out (sym e)

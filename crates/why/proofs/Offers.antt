@@ -9,6 +9,7 @@ use native.Mathlib.Decide.{ℕ_discrete, dec_lt}
 use borrow.Author.Count.{below_more}
 use borrow.Author.Tests.{eq-eqb, ne_eqb}
 use lib.Dec.{eqb}
+use Rattle.std.proofs.lemmas.Bool.Decides.{nat_tests}
 use lib.ListN.{get_or}
 use Rattle.std.specs.Prelude.{Option, Some, None}
 use Rattle.lemmas.specs.Lowest.{lowest}
@@ -58,6 +59,9 @@ module _ (s : List ℕ) (q : Rec) (c : ℕ) where
   pub offers_some : get_or s c 2 ≡ 2 → (given_code q s c ≡ 2 → ⊥) → offers s q c ≡ true
   unfolding offers
   offers_some is e = rw (eq-eqb (get_or s c 2) 2 is, code_some (given_by s c false q) (given_by s c true q) e)
+
+-- what the tests of an offer tell
+pub ruleset offer_tests = (offers_settled, offers_none, offers_some, cells_read, nat_tests)
 
 -- the lowest of the boxes offered so far
 pub record Low (s : List ℕ) (q : Rec) (below r : ℕ) : Type 0 where

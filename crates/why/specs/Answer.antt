@@ -16,9 +16,11 @@ vetted_says answer = said (λ accepts. accepts) answer
 
 -- the maker's promise: the answer, and every byte of the out buffer
 abbrev pub WhyDoes : (maker depot sheet out : List ℕ) → Result ℕ Refusal → List ℕ → Type 0
-WhyDoes maker depot sheet out answer left = Does (why_says maker depot sheet out) (why_writes maker depot sheet out) (explained_says answer) left
+WhyDoes maker depot sheet out answer left =
+    Does (why_says maker depot sheet out) (why_writes maker depot sheet out) (explained_says answer) left
 
 -- the same of a call whose form has passed
 abbrev pub WhyDoesInForm : (maker depot sheet out : List ℕ) → Result ℕ Refusal → List ℕ → Type 0
 WhyDoesInForm maker depot sheet out answer left =
-    Does (why_judges maker depot sheet) (written (why_judges maker depot sheet) (at_head (lines_bytes (ours maker depot sheet)) out) out) (explained_says answer) left
+    Does (why_judges maker depot sheet)
+    (written (why_judges maker depot sheet) (at_head (lines_bytes (ours maker depot sheet)) out) out) (explained_says answer) left

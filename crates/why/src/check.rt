@@ -13,7 +13,7 @@ use sheet::load;
 use tables::Tables;
 
 // Whether a line is right on these states.
-#[tactic(auto, using(crate::proofs::Codes::given_says, engine::proofs::Settled::cells_read, std::proofs::lemmas::Bool::Decides::nat_tests), unfolding(crate::specs::Read::right_on))]
+#[tactic(auto, using(crate::proofs::Codes::line_tests), unfolding(crate::specs::Read::right_on))]
 fn is_right(t: Tables, states: &[u8; 256], a: Reason) -> bool
     requires { Cells states.now }
     ensures { result ≡ right_on t.entry.maker.now t.entry.depot.now t.entry.n states.now (as_line a) }
@@ -31,7 +31,8 @@ fn is_right(t: Tables, states: &[u8; 256], a: Reason) -> bool
 pub fn first_wrong(t: Tables, sheet: &[u8], lines: &[u8]) -> Option<usize>
     requires accepted_sheet { AcceptedSheet t.n t.maker.now t.depot.now sheet.now }
     requires lines_len { length lines.now % 8 ≡ 0 }
-    ensures { result ≡ lowest_if_any (λ k. not (right t.entry.maker.now t.entry.depot.now sheet.now lines.now k)) (line_count lines.now) }
+    ensures { result ≡ lowest_if_any (λ k. not (right t.entry.maker.now t.entry.depot.now sheet.now lines.now k))
+        (line_count lines.now) }
 {
     let mut states = [OPEN; 256];
     load(sheet, &mut states);

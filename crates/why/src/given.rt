@@ -75,7 +75,7 @@ fn given_z(kind: u8, x: u8, y: u8) -> u8
 }
 
 // What one rule of the record gives box b; open where none gives it a state. What stands at a z that is missing is of no matter.
-#[tactic(auto, using(theory::proofs::Places::good_x, theory::proofs::Places::good_y))]
+#[tactic(auto, using(crate::proofs::Asked::asked, theory::proofs::Places::good_x, theory::proofs::Places::good_y))]
 pub fn given(q: Record, states: &[u8; 256], b: usize) -> u8
     requires q_value { bad 256 (as_rec q) ≡ false }
     requires cells { Cells states.now }

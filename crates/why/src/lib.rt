@@ -1,5 +1,5 @@
 // Why-lists: our list of reasons for what Fill settles, and the check of anyone's.
-#![tactic(auto, using(crate::proofs::Judging::sheet_passed))]
+#![tactic(auto)]
 
 mod check;
 mod given;
@@ -24,7 +24,7 @@ use sheet::load;
 use tables::Tables;
 
 // What the checker has left to say once tables and sheet have passed.
-#[tactic(auto, unfolding(whylists::specs::Says::length_check, whylists::specs::Says::lines_check, whylists::specs::Says::why_check_judges))]
+#[tactic(auto, unfolding(whylists::specs::Says::why_check_judges, whylists::specs::Says::length_check, whylists::specs::Says::lines_check))]
 fn vet_accepted(t: Tables, sheet: &[u8], lines: &[u8]) -> Result<(), Refusal>
     requires { AcceptedSheet t.n t.maker.now t.depot.now sheet.now }
     ensures { vetted_says result ≡ why_check_judges t.entry.maker.now t.entry.depot.now sheet.now lines.now }
@@ -38,6 +38,7 @@ fn vet_accepted(t: Tables, sheet: &[u8], lines: &[u8]) -> Result<(), Refusal>
     }
 }
 
+#[tactic(auto, using(crate::proofs::Judging::sheet_passed))]
 pub fn why_check<'a>(
     maker: &'a [u8],
     depot: &'a [u8],
@@ -66,6 +67,7 @@ fn why_accepted(t: Tables, sheet: &[u8], out: &mut [u8]) -> Result<usize, Refusa
 }
 
 // The maker's checks of form: 1, 2, 3, 4, 5 at place 1.
+#[tactic(auto, using(crate::proofs::Judging::sheet_passed))]
 fn check_why(maker: &[u8], depot: &[u8], sheet: &[u8], out: &[u8]) -> Result<(), Refusal>
     ensures { form_says result ≡ judge (why_checks maker.now depot.now sheet.now out.now) passed }
 {

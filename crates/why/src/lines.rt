@@ -15,6 +15,7 @@ pub struct Reason {
 }
 
 // Line k of a list.
+#[tactic(auto, unfolding(whylists::specs::Lines::line_at, whylists::specs::Lines::line_from))]
 pub fn line_at(lines: &[u8], k: usize) -> Reason
     requires { 8 * k + 8 ≤ length lines.now }
     ensures { as_line result ≡ line_at lines.now k }

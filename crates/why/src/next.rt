@@ -20,6 +20,7 @@ pub struct Next {
 }
 
 // Box c, where it is below the lowest so far, open, and given a state by the record.
+#[tactic(auto, using(crate::proofs::Offers::offer_tests))]
 fn offer(q: Record, states: &[u8; 256], c: usize, best: usize) -> usize
     requires q_value { bad 256 (as_rec q) ≡ false }
     requires cells { Cells states.now }
