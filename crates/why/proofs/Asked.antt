@@ -93,7 +93,8 @@ module _ (q : Rec) {s : List ℕ} (good : bad 256 q ≡ false) (cells : Cells s)
     unfolding box_at
     asked_y b e = rw e (at_place Y (names Y tt) ∙ sym (y_gets_lem q.kind sheet_read) ∙ side (good_x 256 q good) beside_y)
 
-    pub asked_z : z_missing q ≡ false → (b : ℕ) → b ≡ q.z % 256 → given_code q s b ≡ given_alone 2 q.kind (get_or s q.x 0) (get_or s q.y 0) 2
+    pub asked_z : z_missing q ≡ false → (b : ℕ) → b ≡ q.z % 256 →
+        given_code q s b ≡ given_alone 2 q.kind (get_or s q.x 0) (get_or s q.y 0) 2
     unfolding box_at
     asked_z there b e =
         let within = good_z 256 q good there in

@@ -15,7 +15,7 @@ use Rattle.lemmas.specs.Lists.{any, upto}
 use Rattle.lemmas.proofs.Reading.{get_d_set}
 use Rattle.spec.specs.Records.{record_at, record_count}
 use Rattle.engine.specs.Moves.{Cells}
-use Rattle.whylists.specs.Lines.{line_at, known, given_by, right_after, right}
+use Rattle.whylists.specs.Lines.{Line, line_at, known, given_by, right_after, right}
 use Rattle.why.specs.Read.{right_on}
 use Rattle.whylists.proofs.Carried.{given_same}
 use Rattle.whylists.proofs.Known.{IsRight, is_right, right_within, known_size, open_same}
@@ -56,6 +56,9 @@ module _ (maker depot sheet l : List ℕ) where
 
     -- the line is right: its box gets its state
     module _ (is : right maker depot sheet l k ≡ true) where
+      abbrev a : Line
+      a = line_at l k
+
       line : IsRight maker depot sheet l k
       line = is_right maker depot sheet l k is
 
@@ -67,29 +70,27 @@ module _ (maker depot sheet l : List ℕ) where
           record {
             cells =
                 record {
-                  size = length-set s (line_at l k).box (line_at l k).state ∙ so.cells.size;
-                  sheet = get_d_set (λ c. c ≤ 2) s (line_at l k).box (line_at l k).state 2 (omega (arith, line_state)) so.cells.sheet;
+                  size = length-set s a.box a.state ∙ so.cells.size;
+                  sheet = get_d_set (λ c. c ≤ 2) s a.box a.state 2 (omega (arith, line_state)) so.cells.sheet;
                 };
-            same = λ b. subst⁻¹ (λ (j : ℕ). get_or (set s (line_at l k).box (line_at l k).state) b 2 ≡ get_or (known sheet l j) b 2) (one_more k) (at b (ℕ_discrete b (line_at l k).box));
+            same = λ b.
+                subst⁻¹ (λ (j : ℕ). get_or (set s a.box a.state) b 2 ≡ get_or (known sheet l j) b 2) (one_more k) (at b (ℕ_discrete b a.box));
             none = below_more _ k so.none (rw is);
           }
         where
           one_more : (j : ℕ) → j + 1 ≡ suc j
           one_more j = omega arith
 
-          inside : (line_at l k).box < length sheet
+          inside : a.box < length sheet
           inside = right_within maker depot sheet l k line
 
-          at : (b : ℕ) → Dec (b ≡ (line_at l k).box) →
-              get_or (set s (line_at l k).box (line_at l k).state) b 2 ≡ get_or (set (known sheet l k) (line_at l k).box (line_at l k).state) b 2
+          at : (b : ℕ) → Dec (b ≡ a.box) → get_or (set s a.box a.state) b 2 ≡ get_or (set (known sheet l k) a.box a.state) b 2
           at b (yes e) =
-              let known_inside : (line_at l k).box < length (known sheet l k) = omega (arith, inside, known_size maker depot sheet l k) in
+              let known_inside : a.box < length (known sheet l k) = omega (arith, inside, known_size maker depot sheet l k) in
               rw (
                 e,
-                get_or-set_same s (line_at l k).box (line_at l k).state 2 (omega (arith, inside, few, so.cells.size)),
-                get_or-set_same (known sheet l k) (line_at l k).box (line_at l k).state 2 known_inside,
+                get_or-set_same s a.box a.state 2 (omega (arith, inside, few, so.cells.size)),
+                get_or-set_same (known sheet l k) a.box a.state 2 known_inside,
               )
           at b (no e) =
-              get_or-set_other s (line_at l k).box b (line_at l k).state 2 e
-              ∙ so.same b
-              ∙ sym (get_or-set_other (known sheet l k) (line_at l k).box b (line_at l k).state 2 e)
+              get_or-set_other s a.box b a.state 2 e ∙ so.same b ∙ sym (get_or-set_other (known sheet l k) a.box b a.state 2 e)

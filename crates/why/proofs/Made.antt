@@ -118,7 +118,10 @@ module _ (maker depot sheet out₀ : List ℕ) (n : ℕ) where
             size = length-set so.t b g ∙ so.size;
             same = λ c. at c (ℕ_discrete c b);
             lines = length-append so.done (a ∷ []) ∙ ap (λ (m : ℕ). m + 1) so.lines;
-            rest = so.rest ∙ ap (λ (l : List Line). so.done ++ l) one_more ∙ sym (append_assoc so.done (a ∷ []) (lines_from maker depot (n - (k + 1)) (set so.t b g)));
+            rest =
+                so.rest
+                ∙ ap (λ (l : List Line). so.done ++ l) one_more
+                ∙ sym (append_assoc so.done (a ∷ []) (lines_from maker depot (n - (k + 1)) (set so.t b g)));
             puts = both;
           }
         where

@@ -170,8 +170,8 @@ module _ (maker depot s : List ℕ) (n i below : ℕ) where
   within (Some next) so = omega arith
 
   -- record i gives a lower box a state
-  pub so_lower : (next : Option Next) → SoFar maker depot s n i below next → (c : ℕ) → c ≡ lowest (offers s (record_at maker depot i)) below →
-      c < below → SoFar maker depot s n (i + 1) c (Some (record { b = c; number = i }))
+  pub so_lower : (next : Option Next) → SoFar maker depot s n i below next →
+      (c : ℕ) → c ≡ lowest (offers s (record_at maker depot i)) below → c < below → SoFar maker depot s n (i + 1) c (Some (record { b = c; number = i }))
   so_lower next so c e h =
       let found = lowest_found (offers s (record_at maker depot i)) below (rw (← e) h) in (
         refl,
@@ -185,8 +185,8 @@ module _ (maker depot s : List ℕ) (n i below : ℕ) where
       )
 
   -- it gives none below
-  pub so_kept : (next : Option Next) → SoFar maker depot s n i below next → (c : ℕ) → c ≡ lowest (offers s (record_at maker depot i)) below →
-      below ≤ c → SoFar maker depot s n (i + 1) below next
+  pub so_kept : (next : Option Next) → SoFar maker depot s n i below next →
+      (c : ℕ) → c ≡ lowest (offers s (record_at maker depot i)) below → below ≤ c → SoFar maker depot s n (i + 1) below next
   so_kept next so c e h = at next so
     where
       none_more : (d : ℕ) → d < below → (j : ℕ) → j < i + 1 → offers s (record_at maker depot j) d ≡ false

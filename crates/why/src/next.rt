@@ -34,8 +34,8 @@ fn offer(q: Record, states: &[u8; 256], c: usize, best: usize) -> usize
     }
 }
 
-// The lowest box below a bound that the record gives a state, or the bound, which the boxes of the next record go below as well.
-// A record at rest, as most are, is told by a look.
+// The lowest box below a bound that the record gives a state. Where it gives none, the bound stands, and the search goes on below it
+// at the next record. A record at rest, as most are, is told by a look.
 #[tactic(auto, using(theory::proofs::Places::good_x, theory::proofs::Places::good_y))]
 fn lowest_given(q: Record, states: &[u8; 256], below: usize) -> usize
     requires q_value { bad 256 (as_rec q) ≡ false }

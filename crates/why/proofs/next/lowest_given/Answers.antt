@@ -31,7 +31,8 @@ module _ (q : Rec) {s : List ℕ} (good : bad 256 q ≡ false) (cells : Cells s)
       let within = good_z 256 q good there in
       let same : q.z % 256 ≡ q.z = omega (arith, within) in
       low_lowest (low_next (low_next (low_next low_start first) second) third)
-      (offers_all q good cells (λ h. first.passed (omega (arith, second.within, third.within))) (λ h. second.passed (omega (arith, third.within)))
+      (offers_all q good cells (λ h. first.passed (omega (arith, second.within, third.within)))
+      (λ h. second.passed (omega (arith, third.within)))
       (λ is h. subst (λ (b : ℕ). offers s q b ≡ false) same (third.passed (omega (arith, same, h)))))
 
 pub at_rest-requires : goal.at_rest-requires

@@ -12,11 +12,12 @@ lowest_given-b-requires-clause-q_value c = rw c.record.ensures ((accepted_all c.
 pub loop-number-preserved : goal.loop-number-preserved
 loop-number-preserved c =
     let t = c.args.t in
+    let s = c.args.states.now in
     let so = c.loop-number in
     let found = rw c.record.ensures at c.lowest_given-b.ensures in
     elim c.if-b-below.branch [
       | then-b-below w ↦
-          rw (w.next-is, w.below-is) (so_lower t.maker.now t.depot.now c.args.states.now t.n _ _ so.next so.invariant _ found w.if-b-below.true)
+          rw (w.next-is, w.below-is) (so_lower t.maker.now t.depot.now s t.n _ _ so.next so.invariant _ found w.if-b-below.true)
       | else-b-below w ↦
-          rw (w.next-is, w.below-is) (so_kept t.maker.now t.depot.now c.args.states.now t.n _ _ so.next so.invariant _ found w.if-b-below.false)
+          rw (w.next-is, w.below-is) (so_kept t.maker.now t.depot.now s t.n _ _ so.next so.invariant _ found w.if-b-below.false)
     ]
