@@ -73,8 +73,7 @@ module _ (maker depot sheet l : List ℕ) where
                   size = length-set s a.box a.state ∙ so.cells.size;
                   sheet = get_d_set (λ c. c ≤ 2) s a.box a.state 2 (omega (arith, line_state)) so.cells.sheet;
                 };
-            same = λ b.
-                subst⁻¹ (λ (j : ℕ). get_or (set s a.box a.state) b 2 ≡ get_or (known sheet l j) b 2) (one_more k) (at b (ℕ_discrete b a.box));
+            same = more;
             none = below_more _ k so.none (rw is);
           }
         where
@@ -94,3 +93,7 @@ module _ (maker depot sheet l : List ℕ) where
               )
           at b (no e) =
               get_or-set_other s a.box b a.state 2 e ∙ so.same b ∙ sym (get_or-set_other (known sheet l k) a.box b a.state 2 e)
+
+          more : (b : ℕ) → get_or (set s a.box a.state) b 2 ≡ get_or (known sheet l (k + 1)) b 2
+          more b =
+              subst⁻¹ (λ (j : ℕ). get_or (set s a.box a.state) b 2 ≡ get_or (known sheet l j) b 2) (one_more k) (at b (ℕ_discrete b a.box))

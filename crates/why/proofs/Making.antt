@@ -14,7 +14,7 @@ use Rattle.lemmas.proofs.Lowest.{lowest_at, lowest_none}
 use Rattle.lemmas.proofs.Members.{any_member, any_of, upto_member, member_upto}
 use Rattle.lemmas.proofs.Reading.{get_d_default}
 use Rattle.lemmas.proofs.Tests.{T_true, true_T, false_T, both_left, both_right, both_of}
-use Rattle.spec.specs.Records.{record_at, record_count}
+use Rattle.spec.specs.Records.{Rec, record_at, record_count}
 use Rattle.spec.specs.Rounds.{code}
 use Rattle.whylists.specs.Lines.{given_by}
 use Rattle.whylists.specs.Ours.{gives_box, follows_now, next_box, by_record, state_by}
@@ -89,14 +89,15 @@ module _ (maker depot s t : List ℕ) (same : (b : ℕ) → get_or s b 2 ≡ get
         (lowest_at (gives_box maker depot t b) (record_count maker depot) number so.counted (sym (gives_is number) ∙ so.given)
         (λ r l. sym (gives_is r) ∙ so.lowest r l))
 
+    abbrev pub q : Rec
+    q = record_at maker depot number
+
     -- the state by what the record gives, which is not open and not both
-    pub next_state : (g : ℕ) →
-        g ≡ code (given_by s b false (record_at maker depot number)) (given_by s b true (record_at maker depot number)) → g ≤ 2 → state_by maker depot t ≡ g
+    pub next_state : (g : ℕ) → g ≡ code (given_by s b false q) (given_by s b true q) → g ≤ 2 → state_by maker depot t ≡ g
     unfolding state_by code
     next_state g e low =
-        rw (next_record, next_box_lem, sym (given_same s t same b true (record_at maker depot number)))
-        (told (given_by s b false (record_at maker depot number)) (given_by s b true (record_at maker depot number))
-        (gives_same b number ∙ sym (gives_is number) ∙ so.given) e)
+        rw (next_record, next_box_lem, sym (given_same s t same b true q))
+        (told (given_by s b false q) (given_by s b true q) (gives_same b number ∙ sym (gives_is number) ∙ so.given) e)
       where
         told : (out in' : Bool) → (out || in') ≡ true → g ≡ code out in' → cond in' 1 0 ≡ g
         told true true is e' = absurd (omega (arith, e', low))

@@ -169,39 +169,39 @@ module _ (maker depot s : List ℕ) (n i below : ℕ) where
   within None so = omega arith
   within (Some next) so = omega arith
 
-  -- record i gives a lower box a state
-  pub so_lower : (next : Option Next) → SoFar maker depot s n i below next →
-      (c : ℕ) → c ≡ lowest (offers s (record_at maker depot i)) below → c < below → SoFar maker depot s n (i + 1) c (Some (record { b = c; number = i }))
-  so_lower next so c e h =
-      let found = lowest_found (offers s (record_at maker depot i)) below (rw (← e) h) in (
-        refl,
-        record {
-          within = omega (arith, within next so);
-          none = λ d l. below_more _ i (none_below next so d (omega arith)) (found.1 d (rw (← e) l));
-          counted = omega arith;
-          given = rw e found.0;
-          lowest = none_below next so c h;
-        },
-      )
+  module _ (next : Option Next) (so : SoFar maker depot s n i below next) (c : ℕ)
+      (e : c ≡ lowest (offers s (record_at maker depot i)) below) where
+    -- record i gives a lower box a state
+    pub so_lower : c < below → SoFar maker depot s n (i + 1) c (Some (record { b = c; number = i }))
+    so_lower h =
+        let found = lowest_found (offers s (record_at maker depot i)) below (rw (← e) h) in (
+          refl,
+          record {
+            within = omega (arith, within next so);
+            none = λ d l. below_more _ i (none_below next so d (omega arith)) (found.1 d (rw (← e) l));
+            counted = omega arith;
+            given = rw e found.0;
+            lowest = none_below next so c h;
+          },
+        )
 
-  -- it gives none below
-  pub so_kept : (next : Option Next) → SoFar maker depot s n i below next →
-      (c : ℕ) → c ≡ lowest (offers s (record_at maker depot i)) below → below ≤ c → SoFar maker depot s n (i + 1) below next
-  so_kept next so c e h = at next so
-    where
-      none_more : (d : ℕ) → d < below → (j : ℕ) → j < i + 1 → offers s (record_at maker depot j) d ≡ false
-      none_more d l =
-          below_more _ i (none_below next so d l) (lowest_below (offers s (record_at maker depot i)) below d (rw (← e) h) l)
+    -- it gives none below
+    pub so_kept : below ≤ c → SoFar maker depot s n (i + 1) below next
+    so_kept h = at next so
+      where
+        none_more : (d : ℕ) → d < below → (j : ℕ) → j < i + 1 → offers s (record_at maker depot j) d ≡ false
+        none_more d l =
+            below_more _ i (none_below next so d l) (lowest_below (offers s (record_at maker depot i)) below d (rw (← e) h) l)
 
-      at : (next : Option Next) → SoFar maker depot s n i below next → SoFar maker depot s n (i + 1) below next
-      at None so = (so.0, λ d l. none_more d (omega arith))
-      at (Some next) so = (
-        so.0,
-        record {
-          within = so.1.within;
-          none = λ d l. none_more d (omega arith);
-          counted = omega arith;
-          given = so.1.given;
-          lowest = so.1.lowest;
-        },
-      )
+        at : (next : Option Next) → SoFar maker depot s n i below next → SoFar maker depot s n (i + 1) below next
+        at None so = (so.0, λ d l. none_more d (omega arith))
+        at (Some next) so = (
+          so.0,
+          record {
+            within = so.1.within;
+            none = λ d l. none_more d (omega arith);
+            counted = omega arith;
+            given = so.1.given;
+            lowest = so.1.lowest;
+          },
+        )
