@@ -9,6 +9,5 @@ pub mod Pairs
 pub mod Same
 pub mod Table
 pub mod Indexed
-pub mod Copying
 pub mod Ascending
 pub mod Implies

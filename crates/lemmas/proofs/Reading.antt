@@ -1,29 +1,19 @@
 -- What is read from a list at an index, with what is read past its end.
 -- Assumes nothing.
 use mathlib.Core.Path.{◌≡◌, refl}
-use mathlib.Core.Bool.{Bool}
 use mathlib.Core.List.{List, [], ◌∷◌}
 use Prim.Native.Nat.{ℕ, zero, suc, ◌<◌}
 use native.Mathlib.Nat.{not-suc-le-zero, le_of_suc-le-suc}
 use native.Mathlib.Omega.{arith}
 use native.Mathlib.Decide.{ℕ_discrete, dec_lt}
-use lib.Dec.{T}
 use lib.ListN.{length, get_or, set, get_or-eq_default}
 use lib.Seq.{get_or-set_same, get_or-set_other, set_out}
-use Rattle.lemmas.specs.Lists.{all}
-use Rattle.lemmas.proofs.Tests.{both_left, both_right}
 
 -- below the length it is no matter what is read past the end
 pub get_d_default : {A : Type 0} (l : List A) (i : ℕ) (d e : A) → i < length l → get_or l i d ≡ get_or l i e
 get_d_default [] i d e h = absurd (not-suc-le-zero h)
 get_d_default (a ∷ l) zero d e h = refl
 get_d_default (a ∷ l) (suc i) d e h = get_d_default l i d e (le_of_suc-le-suc h)
-
--- a test that every element passes, and what is read past the end, is passed at every index
-pub get_or_all : {A : Type 0} (p : A → Bool) (l : List A) (d : A) → T (all p l) → T (p d) → (i : ℕ) → T (p (get_or l i d))
-get_or_all p [] d h k i = k
-get_or_all p (a ∷ l) d h k zero = both_left (p a) (all p l) h
-get_or_all p (a ∷ l) d h k (suc i) = get_or_all p l d (both_right (p a) (all p l) h) k i
 
 -- what holds below the length, and of what is read past the end, holds at every index
 pub get_or_each : {A : Type 0} (P : A → Type 0) (l : List A) (d e : A) → ((i : ℕ) → i < length l → P (get_or l i d)) → P e →
