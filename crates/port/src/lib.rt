@@ -18,32 +18,27 @@ ghost use Rattle.fits.specs.Answer.{verdict_numbers};
 ghost use Rattle.lists.specs.Answer.{handed_numbers};
 ghost use Rattle.port.specs.Face.{three_of_part};
 
-use desk::{fill, first, next, test};
-use records::place_of;
-use refusals::BROKEN;
+use desk::{Verdict, fill, first, next, test};
+use records::{Where, place_of};
 
 pub fn angatupyi_test<'a>(maker: &'a [u8], depot: &'a [u8], list: &[u8], answer: &mut [u64; 3])
     ensures { answer.new ≡ numbers_of verdict_numbers (test_says maker.now depot.now list.now) }
 {
-    let said = fits::numbers(test(maker, depot, list));
-    *answer = [said.code, said.first, said.second];
+    *answer = fits::numbers(test(maker, depot, list)).into();
 }
 
 // C has no slice to return, so the part is told by its table, start and length.
 pub fn angatupyi_show<'a>(maker: &'a [u8], depot: &'a [u8], list: &[u8], answer: &mut [u64; 3])
     ensures { answer.new ≡ three_of_part (shows_part maker.now depot.now list.now) }
 {
-    let tested = fits::numbers(test(maker, depot, list));
-    if tested.code != BROKEN {
-        *answer = [0, 0, 0];
-        return;
-    }
-    let place = place_of(maker, tested.first as usize);
-    if place.depots {
-        *answer = [1, place.start as u64, 8];
-    } else {
-        *answer = [0, place.start as u64, 8];
-    }
+    *answer = match test(maker, depot, list) {
+        Ok(Verdict::Broken(number)) => match place_of(maker, number) {
+            Where::Maker(start) => [0, start as u64, 8],
+            Where::Depot(start) => [1, start as u64, 8],
+        },
+        Ok(Verdict::Fits) => [0, 0, 0],
+        Err(_) => [0, 0, 0],
+    };
 }
 
 pub fn angatupyi_fill<'a>(
@@ -55,8 +50,7 @@ pub fn angatupyi_fill<'a>(
 )
     ensures { Does (numbers_of done_with (fill_says maker.now depot.now sheet.now out.old)) (fill_writes maker.now depot.now sheet.now out.old) answer.new out.new }
 {
-    let said = fill::numbers(fill(maker, depot, sheet, out));
-    *answer = [said.code, said.first, said.second];
+    *answer = fill::numbers(fill(maker, depot, sheet, out)).into();
 }
 
 pub fn angatupyi_first<'a>(
@@ -68,8 +62,7 @@ pub fn angatupyi_first<'a>(
 )
     ensures { Does (numbers_of handed_numbers (first_says maker.now depot.now sheet.now out.old)) (first_writes maker.now depot.now sheet.now out.old) answer.new out.new }
 {
-    let said = lists::numbers(first(maker, depot, sheet, out));
-    *answer = [said.code, said.first, said.second];
+    *answer = lists::numbers(first(maker, depot, sheet, out)).into();
 }
 
 pub fn angatupyi_next<'a>(
@@ -82,6 +75,5 @@ pub fn angatupyi_next<'a>(
 )
     ensures { Does (numbers_of handed_numbers (next_says maker.now depot.now sheet.now given.now out.old)) (next_writes maker.now depot.now sheet.now given.now out.old) answer.new out.new }
 {
-    let said = lists::numbers(next(maker, depot, sheet, given, out));
-    *answer = [said.code, said.first, said.second];
+    *answer = lists::numbers(next(maker, depot, sheet, given, out)).into();
 }

@@ -89,6 +89,15 @@ impl From<Refusal> for Numbers {
     }
 }
 
+// The numbers in their order, for C.
+impl From<Numbers> for [u64; 3] {
+    ghost from_gives = { λ n l. l ≡ in_order n };
+
+    fn from(n: Numbers) -> [u64; 3] {
+        [n.code, n.first, n.second]
+    }
+}
+
 // Puts a refusal in words: `refused`, its number, its place.
 pub fn put_refused(text: &mut [u8], at: usize, said: Numbers) -> usize
     requires { at + refusal_room ≤ length text.old }
