@@ -30,11 +30,11 @@ impl<'a> Parts<'a> {
     }
 }
 
-// Decodes the fields from `from` on, eight at most. The parts of those that are not there are empty.
-pub fn take_parts<'a>(line: &[u8], from: usize, bytes: &'a mut [u8]) -> Parts<'a>
+// Decodes the fields from `from` on, eight at most, and answers where the parts end. The parts of those that are not there are empty.
+pub fn take_parts(line: &[u8], from: usize, bytes: &mut [u8]) -> [usize; 9]
     requires right_fields { RightFields line.now from }
     requires line_len_bound { length line.now ≤ 2 * length bytes.old }
-    ensures { PartsTaken line.now from result.bytes.now result.ends }
+    ensures { PartsTaken line.now from bytes.new result }
 {
     let mut fields = line[from..].split(|c| *c == SPACE);
     let mut ends = [0; 9];
@@ -45,7 +45,7 @@ pub fn take_parts<'a>(line: &[u8], from: usize, bytes: &'a mut [u8]) -> Parts<'a
         }
         ends[k + 1] = at;
     }
-    Parts { bytes, ends }
+    ends
 }
 
 // The number that a part of four bytes is.

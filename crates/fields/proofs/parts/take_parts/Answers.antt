@@ -40,9 +40,5 @@ loop-k-preserved c =
           rw (w.bytes-is, w.at-is, step.1) (taking_none so room more (left_none c.loop-k.fields step.0))
     ]
 
-pub invariant_of-result : goal.invariant_of-result
-invariant_of-result c =
-    record { in_order = (all_taken c.requires.right_fields c.loop-k.invariant c.requires.line_len_bound c.loop-k-test.false).ordered }
-
 pub returns : goal.returns
 returns c = all_taken c.requires.right_fields c.loop-k.invariant c.requires.line_len_bound c.loop-k-test.false
