@@ -1,11 +1,12 @@
 -- The answer to a line, by what was found of it so far; and the fields after its word.
 -- Assumes nothing.
 use mathlib.Core.Path.{◌≡◌, refl, sym, ◌∙◌, ap}
-use mathlib.Core.Bool.{true, false}
+use mathlib.Core.Bool.{true, false, cond}
 use mathlib.Core.List.{List, [], ◌∷◌, ◌++◌}
 use Prim.Native.Nat.{ℕ, ◌+◌, ◌≤◌, ◌<◌}
 use native.Mathlib.Omega.{arith}
 use native.Mathlib.Nat.{zero-add}
+use lib.Dec.{eqb}
 use lib.ListN.{length, get_or, take, drop, length-drop}
 use borrow.Author.Tests.{lt-ltb, le-ltb, eq-eqb, ne_eqb}
 use Rattle.lemmas.specs.Lists.{all}
@@ -16,83 +17,85 @@ use Rattle.fields.specs.Ends.{RightFields}
 use Rattle.fields.proofs.Splitting.{first_piece, ends_before, next_pieces}
 use Rattle.calls.specs.Words.{error_for}
 use Rattle.calls.specs.Rows.{call_rows, row_at, row_of}
-use Rattle.calls.specs.Lines.{answer_by, answer_in, answer_of, reply_to}
-use Rattle.calls.proofs.Table.{row_most, row_many, answer_row}
+use Rattle.calls.specs.Lines.{answer_in, answer_of, reply_to}
+use Rattle.calls.specs.Room.{row_number}
+use Rattle.calls.specs.declared.rows.Call.{Call}
+use Rattle.calls.proofs.Table.{row_many, row_below, answer_row}
 
-module _ (line : List ℕ) where
-  pub answer_long : 200000 < length line → answer_of line ≡ error_for (ascii "long")
+pub answer_long : (line : List ℕ) → 200000 < length line → answer_of line ≡ error_for (ascii "long")
+unfolding answer_of
+answer_long line h = rw (lt-ltb _ _ h)
+
+-- a line short enough, whose word ends at `end`
+pub record Worded (line : List ℕ) (end : ℕ) : Type 0 where
+  pub short : length line ≤ 200000
+  pub ends : end ≡ 0 + until 32 line
+
+module _ {line : List ℕ} {end : ℕ} (w : Worded line end) where
+  by_row : answer_of line ≡
+      cond (eqb (row_of (take end line)) (length call_rows)) (error_for (ascii "word"))
+      (answer_in (row_at (row_of (take end line))) (drop 1 (fields_of line)))
   unfolding answer_of
-  answer_long h = rw (lt-ltb _ _ h)
+  by_row =
+      rw (le-ltb _ _ w.short)
+      (answer_row (get_or (fields_of line) 0 []) (drop 1 (fields_of line))
+      ∙ ap
+      (λ (l : List ℕ).
+      cond (eqb (row_of l) (length call_rows)) (error_for (ascii "word")) (answer_in (row_at (row_of l)) (drop 1 (fields_of line))))
+      (first_piece 32 line 0 (omega arith) ∙ ap (λ (n : ℕ). take n line) (sym (w.ends ∙ zero-add _))))
 
-  -- the line is short enough, its word ends at `end`, and has row k
-  module _ (short : length line ≤ 200000) (end : ℕ) (e : end ≡ 0 + until 32 line) (k : ℕ) (found : k ≡ row_of (take end line)) where
-    row_is : row_of (get_or (fields_of line) 0 []) ≡ k
-    row_is = ap row_of (first_piece 32 line 0 (omega arith) ∙ ap (λ (n : ℕ). take n line) (sym (e ∙ zero-add _))) ∙ sym found
+  pub answer_word : length call_rows ≡ row_of (take end line) → answer_of line ≡ error_for (ascii "word")
+  answer_word none = by_row ∙ rw (eq-eqb _ _ (sym none))
 
-    by_row : answer_of line ≡ answer_by call_rows (get_or (fields_of line) 0 []) (drop 1 (fields_of line))
-    unfolding answer_of
-    by_row = rw (le-ltb _ _ short)
+  -- the word is that of a call
+  module _ (call : Call) (found : row_number call ≡ row_of (take end line)) where
+    in_row : answer_of line ≡ answer_in (row_at (row_number call)) (drop 1 (fields_of line))
+    in_row = by_row ∙ rw (← found, ne_eqb (row_number call) (length call_rows) (λ e. omega (arith, row_below call)))
 
-    pub answer_word : k ≡ length call_rows → answer_of line ≡ error_for (ascii "word")
-    answer_word none = by_row ∙ answer_row (get_or (fields_of line) 0 []) (drop 1 (fields_of line)) ∙ rw (row_is, eq-eqb k (length call_rows) none)
+    pub answer_fields : (length (fields_of line) ≡ (row_at (row_number call)).many + 1 → ⊥) → answer_of line ≡ error_for (ascii "fields")
+    answer_fields other =
+        in_row ∙ rw (ne_eqb (length (drop 1 (fields_of line))) (row_at (row_number call)).many
+        (λ same. other (omega (arith, same, length-drop 1 (fields_of line), row_many call))))
 
-    module _ (some : k ≡ length call_rows → ⊥) where
-      pub known : k < length call_rows
-      known = omega (arith, found, row_most (take end line))
+    -- the fields after the word: as many as the row wants
+    module _ (same : length (fields_of line) ≡ (row_at (row_number call)).many + 1) where
+      more : 1 < length (fields_of line)
+      more = omega (arith, same, row_many call)
 
-      in_row : answer_of line ≡ answer_in (row_at k) (drop 1 (fields_of line))
-      in_row = by_row ∙ answer_row (get_or (fields_of line) 0 []) (drop 1 (fields_of line)) ∙ rw (row_is, ne_eqb k (length call_rows) some)
+      pub after_within : end + 1 ≤ length line
+      after_within = omega (arith, ends_before 32 line 0 (omega arith) more, w.ends)
 
-      pub answer_fields : (length (fields_of line) ≡ (row_at k).many + 1 → ⊥) → answer_of line ≡ error_for (ascii "fields")
-      answer_fields other =
-          in_row ∙ rw (ne_eqb (length (drop 1 (fields_of line))) (row_at k).many
-          (λ same. other (omega (arith, same, length-drop 1 (fields_of line), row_many k known))))
+      after_word : drop 1 (fields_of line) ≡ fields_of (drop (end + 1) line)
+      after_word = ap (drop 1) (next_pieces 32 line 0 (omega arith) more (end + 1) (omega (arith, w.ends)))
 
-      -- the fields after the word: as many as the row wants
-      module _ (same : length (fields_of line) ≡ (row_at k).many + 1) where
-        more : 1 < length (fields_of line)
-        more = omega (arith, same, row_many k known)
+      after_count : length (fields_of (drop (end + 1) line)) ≡ (row_at (row_number call)).many
+      after_count = omega (arith, same, ap length (next_pieces 32 line 0 (omega arith) more (end + 1) (omega (arith, w.ends))))
 
-        pub after_within : end + 1 ≤ length line
-        after_within = omega (arith, ends_before 32 line 0 (omega arith) more)
+      after_row : answer_of line ≡ answer_in (row_at (row_number call)) (fields_of (drop (end + 1) line))
+      after_row = in_row ∙ ap (answer_in (row_at (row_number call))) after_word
 
-        after_word : drop 1 (fields_of line) ≡ fields_of (drop (end + 1) line)
-        after_word = ap (drop 1) (next_pieces 32 line 0 (omega arith) more (end + 1) (omega arith))
+      pub answer_digits : all is_field (fields_of (drop (end + 1) line)) ≡ false → answer_of line ≡ error_for (ascii "digits")
+      answer_digits wrong = after_row ∙ rw (eq-eqb _ _ after_count, wrong)
 
-        after_count : length (fields_of (drop (end + 1) line)) ≡ (row_at k).many
-        after_count = omega (arith, same, ap length (next_pieces 32 line 0 (omega arith) more (end + 1) (omega arith)))
+      module _ (right : all is_field (fields_of (drop (end + 1) line)) ≡ true) where
+        pub answer_call : answer_of line ≡ (row_at (row_number call)).answer (part (fields_of (drop (end + 1) line)))
+        answer_call = after_row ∙ rw (eq-eqb _ _ after_count, right)
 
-        after_row : answer_of line ≡ answer_in (row_at k) (fields_of (drop (end + 1) line))
-        after_row = in_row ∙ ap (answer_in (row_at k)) after_word
+        pub after_right : RightFields line (end + 1)
+        after_right =
+            record { within = after_within; few = omega (arith, after_count, row_many call); right = right }
 
-        pub answer_digits : all is_field (fields_of (drop (end + 1) line)) ≡ false → answer_of line ≡ error_for (ascii "digits")
-        answer_digits wrong = after_row ∙ rw (eq-eqb _ _ after_count, wrong)
-
-        module _ (right : all is_field (fields_of (drop (end + 1) line)) ≡ true) where
-          pub answer_call : answer_of line ≡ (row_at k).answer (part (fields_of (drop (end + 1) line)))
-          answer_call = after_row ∙ rw (eq-eqb _ _ after_count, right)
-
-          pub after_right : RightFields line (end + 1)
-          after_right = record { within = after_within; few = omega (arith, after_count, row_many k known); right = right }
-
-pub reply_empty : (line : List ℕ) → length line ≡ 0 → reply_to line ≡ []
+pub reply_empty : (line : List ℕ) → length line < 1 → reply_to line ≡ []
 unfolding reply_to
-reply_empty [] e = refl
-reply_empty (c ∷ l) e = absurd (omega arith)
+reply_empty [] few = refl
+reply_empty (c ∷ l) few = absurd (omega arith)
 
-module _ (line : List ℕ) (some : length line ≡ 0 → ⊥) where
-  pub reply_comment : get_or line 0 0 ≡ 35 → reply_to line ≡ []
-  unfolding reply_to
-  reply_comment = at line some
-    where
-      at : (l : List ℕ) → (length l ≡ 0 → ⊥) → get_or l 0 0 ≡ 35 → reply_to l ≡ []
-      at [] h e = refl
-      at (c ∷ l) h e = rw (eq-eqb _ _ e)
+pub reply_comment : (line : List ℕ) → 1 ≤ length line → get_or line 0 0 ≡ 35 → reply_to line ≡ []
+unfolding reply_to
+reply_comment [] some e = refl
+reply_comment (c ∷ l) some e = rw (eq-eqb _ _ e)
 
-  pub reply_answer : (get_or line 0 0 ≡ 35 → ⊥) → reply_to line ≡ answer_of line ++ 10 ∷ []
-  unfolding reply_to
-  reply_answer = at line some
-    where
-      at : (l : List ℕ) → (length l ≡ 0 → ⊥) → (get_or l 0 0 ≡ 35 → ⊥) → reply_to l ≡ answer_of l ++ 10 ∷ []
-      at [] h e = absurd (h refl)
-      at (c ∷ l) h e = rw (ne_eqb _ _ e)
+pub reply_answer : (line : List ℕ) → 1 ≤ length line → (get_or line 0 0 ≡ 35 → ⊥) → reply_to line ≡ answer_of line ++ 10 ∷ []
+unfolding reply_to
+reply_answer [] some other = absurd (omega arith)
+reply_answer (c ∷ l) some other = rw (ne_eqb _ _ other)

@@ -1,4 +1,3 @@
-pub mod Saying
 pub mod Putting
 pub mod Shown
 pub mod Table

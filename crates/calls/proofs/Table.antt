@@ -1,22 +1,25 @@
 -- The rows of the calls, as the code has them.
 -- Assumes nothing.
 use mathlib.Core.Path.{◌≡◌, refl}
-use mathlib.Core.Bool.{Bool, true, false, cond, ◌&&◌}
+use mathlib.Core.Bool.{Bool, true, false, cond}
 use mathlib.Core.List.{List, [], ◌∷◌, map}
 use Prim.Native.Nat.{ℕ, suc, ◌≤◌, ◌<◌}
 use native.Mathlib.Omega.{arith}
-use borrow.Author.Tests.{leb-true}
-use lib.Dec.{leb, eqb, eqb-zero-suc, eqb-suc-suc}
-use lib.ListN.{length, get_or, get_or-eq_default}
-use Rattle.lemmas.proofs.Tests.{T_true, true_T, both_left, both_right}
+use borrow.Author.Tests.{ltb-true, ltb-false}
+use Rattle.std.proofs.Common.{Some, None}
+use lib.Dec.{ltb, eqb, eqb-zero-suc, eqb-suc-suc}
+use lib.ListN.{length, get_or}
 use Rattle.lemmas.proofs.Table.{table_agree}
 use Rattle.lemmas.specs.Same.{same_list}
 use Rattle.text.specs.Spelling.{ascii}
 use Rattle.fields.specs.Fields.{is}
-use Rattle.fields.specs.Words.{place_among}
+use Rattle.fields.specs.Words.{place_among, found_among}
 use Rattle.calls.specs.Words.{error_for}
 use Rattle.calls.specs.Rows.{Row, call_rows, no_row, row_at, row_of}
 use Rattle.calls.specs.Lines.{answer_in, answer_by}
+use Rattle.calls.specs.Room.{row_number}
+use Rattle.calls.specs.declared.rows.Call.{Call}
+use Rattle.calls.specs.declared.rows.Call.TheVariants.{Fill, Test, Show, First, Next}
 
 -- the answer by a row's number
 answer_place : (rs : List Row) (none : Row) (w : List ℕ) (fs : List (List ℕ)) (k : ℕ) → k ≡ place_among w (map (λ r. ascii r.word) rs) →
@@ -42,26 +45,45 @@ place_most w (p ∷ ws) = at (same_list eqb w p) (place_most w ws)
     at true h = omega arith
     at false h = omega arith
 
-pub row_most : (w : List ℕ) → row_of w ≤ length call_rows
-unfolding row_of
-row_most w = place_most w (map (λ r. ascii r.word) call_rows)
-
 -- the answer by the number of the row
 pub answer_row : (w : List ℕ) (fs : List (List ℕ)) →
     answer_by call_rows w fs ≡ cond (eqb (row_of w) (length call_rows)) (error_for (ascii "word")) (answer_in (row_at (row_of w)) fs)
 unfolding row_of row_at
 answer_row w fs = answer_place call_rows no_row w fs (row_of w) refl
 
--- behind the last row nothing is answered
-pub row_past : (k : ℕ) → length call_rows ≤ k → (part : ℕ → List ℕ) → (row_at k).answer part ≡ []
-unfolding row_at
-row_past k h part = rw (get_or-eq_default call_rows no_row h)
+-- a word that is found has its row, and one that is not has none
+pub word_found : (w : List ℕ) {k : ℕ} → Some k ≡ found_among w (map (λ r. ascii r.word) call_rows) → (k < length call_rows) × (k ≡ row_of w)
+unfolding row_of
+word_found w {k} e = at (place_among w (map (λ r. ascii r.word) call_rows)) _ refl e
+  where
+    at : (p : ℕ) (b : Bool) → ltb p 5 ≡ b → Some k ≡ cond b (Some p) None → (k < 5) × (k ≡ p)
+    at p true below e = let same : k ≡ p = cc in (omega (arith, ltb-true p 5 below), same)
+    at p false below e = cc
+
+pub word_missing : (w : List ℕ) → None ≡ found_among w (map (λ r. ascii r.word) call_rows) → length call_rows ≡ row_of w
+unfolding row_of
+word_missing w e = at (place_among w (map (λ r. ascii r.word) call_rows)) (place_most w (map (λ r. ascii r.word) call_rows)) _ refl e
+  where
+    at : (p : ℕ) → p ≤ 5 → (b : Bool) → ltb p 5 ≡ b → None ≡ cond b (Some p) None → 5 ≡ p
+    at p most true below e = cc
+    at p most false below e = omega (arith, ltb-false p 5 below)
+
+-- the calls in the order of their rows
+pub call_numbered : (k : ℕ) → k < 5 → row_number (get_or (Fill ∷ Test ∷ Show ∷ First ∷ Next ∷ []) k Fill) ≡ k
+call_numbered k h = table_agree (λ j. row_number (get_or (Fill ∷ Test ∷ Show ∷ First ∷ Next ∷ []) j Fill)) (λ j. j) 5 refl k h
+
+pub row_below : (call : Call) → row_number call < length call_rows
+row_below Fill = omega arith
+row_below Test = omega arith
+row_below Show = omega arith
+row_below First = omega arith
+row_below Next = omega arith
 
 -- every call has some fields, and eight at most
-pub row_many : (k : ℕ) → k < length call_rows → (1 ≤ (row_at k).many) × ((row_at k).many ≤ 8)
+pub row_many : (call : Call) → (1 ≤ (row_at (row_number call)).many) × ((row_at (row_number call)).many ≤ 8)
 unfolding row_at
-row_many k h =
-    let right = T_true (table_agree (λ j. leb 1 (row_at j).many && leb (row_at j).many 8) (λ j. true) (length call_rows) refl k h) in (
-      leb-true 1 (row_at k).many (true_T _ (both_left (leb 1 (row_at k).many) (leb (row_at k).many 8) right)),
-      leb-true (row_at k).many 8 (true_T _ (both_right (leb 1 (row_at k).many) (leb (row_at k).many 8) right)),
-    )
+row_many Fill = (omega arith, omega arith)
+row_many Test = (omega arith, omega arith)
+row_many Show = (omega arith, omega arith)
+row_many First = (omega arith, omega arith)
+row_many Next = (omega arith, omega arith)

@@ -3,7 +3,7 @@ ghost use Rattle.std.specs.Prelude.{◌+◌, ◌≤◌, length};
 ghost use Rattle.text.specs.Putting.{PutWithin};
 ghost use Rattle.calls.specs.Lines.{answer_of, reply_to};
 
-use crate::rows::{ROWS, answer_fields, many_of, row_of};
+use crate::rows::{Call, answer_fields};
 use crate::words::put_error;
 use fields::cut::{count_pieces, end_of};
 use fields::field::{SPACE, are_fields};
@@ -12,9 +12,7 @@ use text::put_byte;
 // Longer lines are not taken.
 pub const LONGEST: usize = 200000;
 
-const HASH: u8 = 35;
-
-pub const LINE_FEED: u8 = 10;
+pub const LINE_FEED: u8 = b'\n';
 
 // The answer to a line that is neither empty nor begins with #.
 fn answer(line: &[u8], text: &mut [u8], at: usize) -> usize
@@ -25,18 +23,17 @@ fn answer(line: &[u8], text: &mut [u8], at: usize) -> usize
         return put_error(text, at, b"long");
     }
     let end = end_of(line, 0, SPACE);
-    let row = row_of(&line[..end]);
-    if row == ROWS {
+    let Some(call) = Call::of(&line[..end]) else {
         return put_error(text, at, b"word");
-    }
-    if count_pieces(line, SPACE) != many_of(row) + 1 {
+    };
+    if count_pieces(line, SPACE) != call.many() + 1 {
         return put_error(text, at, b"fields");
     }
     let from = end + 1;
     if !are_fields(line, from) {
         return put_error(text, at, b"digits");
     }
-    answer_fields(row, line, from, text, at)
+    answer_fields(call, line, from, text, at)
 }
 
 // Puts what is written for a line at `at`: nothing, or its answer and a line feed.
@@ -44,10 +41,10 @@ pub fn reply(line: &[u8], text: &mut [u8], at: usize) -> usize
     requires { at + 101 + length line.now ≤ length text.old }
     ensures { PutWithin (101 + length line.now) text.old at (reply_to line.now) text.new result }
 {
-    if line.len() == 0 {
+    let [first, ..] = line else {
         return at;
-    }
-    if line[0] == HASH {
+    };
+    if *first == b'#' {
         return at;
     }
     let next = answer(line, text, at);

@@ -17,7 +17,7 @@ put_hex-requires c =
       shown_short shows.part-3.result.now shows.show-shown.ensures,
       word.after,
       put_length word,
-      start.requires.room,
+      start.requires,
     )
 
 pub returns : goal.returns
