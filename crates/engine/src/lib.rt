@@ -32,7 +32,8 @@ fn run_queue(
     requires all_wait { AllWait (rules_in t.maker.now t.depot.now) states.old queue.old from to }
     ensures { Rested (rules_in t.entry.maker.now t.entry.depot.now) states.old states.new result }
 {
-    let index = Index::of(t);
+    let mut index = Index::empty();
+    index.fill(t);
     drain(&index, states, queue, from, to)
 }
 

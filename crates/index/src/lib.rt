@@ -2,7 +2,7 @@
 // the place of a byte that holds a box; place 0 holds a kind, so 0 ends a chain.
 #![tactic(auto)]
 
-ghost use Rattle.std.specs.Prelude.{◌≡◌, false, [], ◌∷◌, ◌++◌, ℕ, ◌+◌, ◌*◌, ◌<◌, ◌≤◌, length, get_or};
+ghost use Rattle.std.specs.Prelude.{◌≡◌, false, [], ◌∷◌, ◌++◌, ℕ, ◌+◌, ◌*◌, ◌<◌, ◌≤◌, length, get_or, replicate};
 ghost use Rattle.spec.specs.Records.{rules_in, bad};
 ghost use Rattle.spec.proofs.Named.{Good};
 ghost use Rattle.records.specs.Record.{as_rec};
@@ -114,24 +114,28 @@ pub struct Index {
 }
 
 impl Index {
-    pub fn of(t: Tables) -> Index
-        ensures { Indexed result (rules_in t.entry.maker.now t.entry.depot.now) }
+    // Of no rule.
+    pub fn empty() -> Index
+        ensures packed_len { length result.packed ≡ 4096 }
+        ensures first { result.first ≡ replicate 256 0 }
+        ensures next { result.next ≡ replicate 4096 0 }
     {
-        let mut index = Index {
+        Index {
             packed: [0; 4096],
             rules: 0,
             first: [0; 256],
             next: [0; 4096],
-        };
-        // filled where it lies, so that no array is copied
-        let whole = &mut index;
-        whole.rules = pack(t, &mut whole.packed);
-        link(
-            &whole.packed,
-            whole.rules,
-            &mut whole.first,
-            &mut whole.next,
-        );
-        index
+        }
+    }
+
+    // The empty index becomes that of the tables, where it lies: an index that is handed back is copied.
+    pub fn fill(&mut self, t: Tables)
+        requires packed_len { length self.old.packed ≡ 4096 }
+        requires first { self.old.first ≡ replicate 256 0 }
+        requires next { self.old.next ≡ replicate 4096 0 }
+        ensures { Indexed self.new (rules_in t.entry.maker.now t.entry.depot.now) }
+    {
+        self.rules = pack(t, &mut self.packed);
+        link(&self.packed, self.rules, &mut self.first, &mut self.next);
     }
 }

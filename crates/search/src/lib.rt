@@ -62,7 +62,8 @@ pub fn search(t: Tables, sheet: Sheet, given: Option<&[u8]>) -> Option<Sheet>
     requires { Ready t.n sheet.states given }
     ensures { Finds (Asks (rules_in t.entry.maker.now t.entry.depot.now) t.entry.n sheet.states given.entry) t.entry.n result }
 {
-    let index = Index::of(t);
+    let mut index = Index::empty();
+    index.fill(t);
     let mut filled = sheet;
     let Ok(()) = run_indexed(t, &index, &mut filled.states) else {
         return None;

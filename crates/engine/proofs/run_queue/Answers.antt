@@ -8,5 +8,5 @@ use Rattle.engine.proofs.run_queue.Goals as goal
 
 pub drain-requires-clause-all_wait : goal.drain-requires-clause-all_wait
 drain-requires-clause-all_wait c =
-    subst⁻¹ (λ (qs : List Rec). AllWait qs c.args.states.now c.args.queue.now c.args.from c.args.to) c.of-index.ensures.packs.rules
+    subst⁻¹ (λ (qs : List Rec). AllWait qs c.args.states.now c.args.queue.now c.args.from c.args.to) c.fill.ensures.packs.rules
     c.requires.all_wait

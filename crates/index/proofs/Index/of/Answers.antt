@@ -1,7 +1,0 @@
--- `index::Index::of` meets its contract: the rules of the tables, and their chains from none.
--- Assumes nothing.
-use Rattle.index.proofs.Linking.{linked_zeros}
-use Rattle.index.proofs.Index.of.Goals as goal
-
-pub link-requires-clause-linked : goal.link-requires-clause-linked
-link-requires-clause-linked c = linked_zeros _
