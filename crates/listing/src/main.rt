@@ -2,7 +2,6 @@
 // written is decided by `report::listing`; here is only what reads and writes.
 #![tactic(auto)]
 
-ghost use Rattle.std.specs.Prelude.{◌≡◌, length};
 ghost use Rattle.std.specs.Io.{ReadsAtMost};
 
 use std::fmt;
@@ -27,25 +26,15 @@ impl fmt::Display for Failure {
 }
 
 // A table of 1,025 records is one too many; a sheet of 257 boxes likewise. So more need not be read.
-fn table() -> [u8; 8200]
-    ensures { 8200 ≡ length result }
-{
-    [0; 8200]
-}
+const TABLE: usize = 8200;
 
-fn sheet() -> [u8; 257]
-    ensures { 257 ≡ length result }
-{
-    [0; 257]
-}
+const SHEET: usize = 257;
 
-fn page() -> [u8; 17000]
-    ensures { 17000 ≡ length result }
-{
-    [0; 17000]
-}
+// Room for the longest listing.
+const PAGE: usize = 17000;
 
-// Reads until buf is full or the file ends.
+// Reads until buf is full or the file ends. Fixed memory needs the loop: `read_to_end` fills a `Vec`, and `read_exact` takes a file
+// that is shorter than buf for an error.
 fn read_all(file: &mut impl Read, buf: &mut [u8]) -> io::Result<usize>
     ensures { ReadsAtMost result buf.new }
 {
@@ -73,13 +62,13 @@ fn load(rt: &impl Files, name: &'static str, buf: &mut [u8]) -> Result<usize, Fa
 }
 
 fn list(rt: &(impl Files + Print)) -> Result<(), Failure> {
-    let mut makers = table();
+    let mut makers = [0; TABLE];
     let m = load(rt, "maker.tab", &mut makers)?;
-    let mut depots = table();
+    let mut depots = [0; TABLE];
     let d = load(rt, "depot.tab", &mut depots)?;
-    let mut order = sheet();
+    let mut order = [0; SHEET];
     let b = load(rt, "order.sht", &mut order)?;
-    let mut out = page();
+    let mut out = [0; PAGE];
     let n = report::listing::listing(&makers[..m], &depots[..d], &order[..b], &mut out);
     rt.write_all(&out[..n]).map_err(|error| Failure {
         what: "standard output",
