@@ -11,7 +11,7 @@ use lib.ListN.{length, take, drop, get_or, take-append-drop, length-drop, length
 use lib.Seq.{drop-drop, get_or-drop, take_all}
 use Rattle.text.specs.Spelling.{ascii, spelt, digits_of}
 use Rattle.text.specs.Putting.{Put, PutWithin}
-use Rattle.text.proofs.Puts.{put_then, put_length}
+use Rattle.text.proofs.Puts.{put_then}
 use Rattle.text.proofs.Spells.{Spelling, spelling_start, spelling_next, spelling_all}
 use Rattle.lemmas.proofs.Reading.{get_d_default}
 use Rattle.spec.specs.Kits.{kits, kits_after}
@@ -28,16 +28,11 @@ line_length l = length-append (digits_of l) (ascii "\n") ∙ ap (λ (n : ℕ). n
 pub record Showing (ls : List (List ℕ)) (old : List ℕ) (start : ℕ) (kit new : List ℕ) (at k : ℕ) (found : Bool) : Type 0 where
   pub lines : Spelling list_line ls old start new at k
   pub head : AtHead (drop k ls) found kit
-  pub few : k ≤ 64
   pub room : at ≤ start + 257 * k
 
 pub showing_start : {ls : List (List ℕ)} {old kit : List ℕ} {start : ℕ} {found : Bool} → AtHead ls found kit →
     Showing ls old start kit old start 0 found
-showing_start h = record { lines = spelling_start; head = h; few = omega arith; room = omega arith }
-
-pub showing_length : {ls : List (List ℕ)} {old kit new : List ℕ} {start at k : ℕ} {found : Bool} →
-    Showing ls old start kit new at k found → length new ≡ length old
-showing_length s = put_length s.lines.puts
+showing_start h = record { lines = spelling_start; head = h; room = omega arith }
 
 -- a list is at hand
 module _ (maker depot sheet : List ℕ) {old kit new : List ℕ} {start at k : ℕ} {found : Bool}
@@ -69,26 +64,24 @@ module _ (maker depot sheet : List ℕ) {old kit new : List ℕ} {start at k : �
   behind = sym (drop-drop 1 k ls) ∙ ap (drop 1) head.1
 
   -- it is put, and the one after it is asked for
-  pub showing_next : {last next-kit : List ℕ} {next : ℕ} {next_found : Bool} → length sheet ≤ 256 → k < 64 →
+  pub showing_next : {last next-kit : List ℕ} {next : ℕ} {next_found : Bool} → length sheet ≤ 256 →
       Put new at (list_line kit) last next → AtHead (kits_after maker depot sheet kit) next_found next-kit →
       Showing ls old start next-kit last next (k + 1) next_found
-  showing_next {last} {next-kit} {next} {next_found} few short put h =
+  showing_next {last} {next-kit} {next} {next_found} few put h =
       record {
         lines = spelling_next [] s.lines more (subst (λ (l : List ℕ). Put new at (list_line l) last next) (sym at_k) put);
         head =
             subst (λ (x : List (List ℕ)). AtHead x next_found next-kit)
             (kits_behind maker depot sheet (take k ls) kit head.0 split ∙ sym behind)
             h;
-        few = omega arith;
         room = omega (arith, s.room, put.after, line_length kit, showing_full.boxes);
       }
 
   -- 64 are put: a 65th exists
-  pub showing_more : {last : List ℕ} {next : ℕ} → 64 ≤ k → Put new at (ascii "more\n") last next →
+  pub showing_more : {last : List ℕ} {next : ℕ} → k ≡ 64 → Put new at (ascii "more\n") last next →
       PutWithin lists_page old start (kit_lines ls) last next
   unfolding kit_lines last_line
-  showing_more {last} {next} all put =
-      let full : k ≡ 64 = omega (arith, s.few) in
+  showing_more {last} {next} full put =
       record {
         puts =
             rw (lt-ltb 64 (length ls) (omega (arith, more)))
@@ -97,16 +90,16 @@ module _ (maker depot sheet : List ℕ) {old kit new : List ℕ} {start at k : �
       }
 
 -- none is left
-pub showing_end : {ls : List (List ℕ)} {old kit new last : List ℕ} {start at next k : ℕ} {found : Bool} →
-    Showing ls old start kit new at k found → found ≡ false → PutWithin 25 new at (end_line k) last next →
+pub showing_end : {ls : List (List ℕ)} {old kit new last : List ℕ} {start at next k n : ℕ} {found : Bool} →
+    Showing ls old start kit new at k found → found ≡ false → k ≡ n → n ≤ 64 → PutWithin 25 new at (end_line n) last next →
     PutWithin lists_page old start (kit_lines ls) last next
 unfolding kit_lines last_line
-showing_end {ls} {old} {kit} {new} {last} {start} {at} {next} {k} s ended put =
+showing_end {ls} {old} {kit} {new} {last} {start} {at} {next} {k} s ended is few put =
     let none : drop k ls ≡ [] = subst (λ (f : Bool). AtHead (drop k ls) f kit) ended s.head in
     let count : length ls ≡ k = omega (arith, length-drop k ls, ap length none, s.lines.within) in
     record {
       puts =
-          rw (le-ltb 64 (length ls) (omega (arith, s.few)), take_all 64 ls (omega (arith, s.few)), count)
+          rw (le-ltb 64 (length ls) (omega arith), take_all 64 ls (omega arith), count, is)
           (put_then (spelling_all s.lines (omega arith)) put.puts);
-      short = omega (arith, s.room, s.few, put.short);
+      short = omega (arith, s.room, put.short);
     }

@@ -9,8 +9,10 @@ ghost use Rattle.report.specs.Asking.{Listable, RoomForSheet};
 use crate::asking::{first_kit, next_kit};
 use crate::lines::{put_end, put_header, put_list, put_more, put_refused};
 use records::count;
-use refusals::REFUSED;
 use sheet::count_open;
+
+// A sheet has no more boxes; one that has is refused.
+const MOST_BOXES: usize = 256;
 
 const MOST_LISTS: usize = 64;
 
@@ -30,18 +32,16 @@ fn put_kits<'a>(
     ensures { PutWithin lists_page out.old start (kit_lines (kits maker.now depot.now sheet.now)) out.new result }
 {
     let mut at = start;
-    let mut k: usize = 0;
     let mut found = first_kit(maker, depot, sheet, kit);
-    while k < MOST_LISTS {
+    for k in 0..MOST_LISTS {
         if !found {
             return put_end(out, at, k);
         }
         at = put_list(out, at, &kit[..]);
-        k += 1;
         found = next_kit(maker, depot, sheet, given, kit);
     }
     if !found {
-        return put_end(out, at, k);
+        return put_end(out, at, MOST_LISTS);
     }
     put_more(out, at)
 }
@@ -62,33 +62,14 @@ fn put_listing<'a>(
     requires page_in_bounds { page ≤ length out.old }
     ensures { PutWithin page out.old 0 (listing_of maker.now depot.now sheet.now) out.new result }
 {
-    let said = fill::numbers(desk::fill(maker, depot, sheet, filled));
-    if said.code == REFUSED {
-        return put_refused(out, said);
-    }
+    let boxes = match desk::fill(maker, depot, sheet, filled) {
+        Ok(boxes) => boxes,
+        Err(why) => return put_refused(out, why.into()),
+    };
     let rules = count(maker, depot);
-    let boxes = said.first as usize;
     let left = count_open(&filled[..]);
     let at = put_header(out, sheet.len(), rules, boxes, left);
     put_kits(maker, depot, sheet, given, kit, out, at)
-}
-
-// Room for a sheet of 256 boxes.
-fn buffer() -> [u8; 256]
-    ensures { 256 ≡ length result }
-{
-    [0; 256]
-}
-
-// As many boxes as the sheet has and the buffers hold.
-fn boxes(sheet: &[u8]) -> usize
-    ensures { (result ≤ 256) × (length sheet.now ≤ 256 → result ≡ length sheet.now) }
-{
-    let n = sheet.len();
-    if n <= 256 {
-        return n;
-    }
-    256
 }
 
 // Puts the listing of these tables and this sheet at the start of out, and answers how many bytes it is.
@@ -98,10 +79,10 @@ pub fn listing<'a>(maker: &'a [u8], depot: &'a [u8], sheet: &[u8], out: &mut [u8
     ensures written { take result out.new ≡ listing_of maker.now depot.now sheet.now }
     ensures nothing_else { Put out.old 0 (listing_of maker.now depot.now sheet.now) out.new result }
 {
-    let mut filled = buffer();
-    let mut given = buffer();
-    let mut kit = buffer();
-    let n = boxes(sheet);
+    let n = sheet.len().min(MOST_BOXES);
+    let mut filled = [0; MOST_BOXES];
+    let mut given = [0; MOST_BOXES];
+    let mut kit = [0; MOST_BOXES];
     put_listing(
         maker,
         depot,

@@ -4,8 +4,4 @@ use Rattle.report.proofs.Heads.{first_at}
 use Rattle.report.proofs.asking.first_kit.Goals as goal
 
 pub returns : goal.returns
-returns c =
-    let start = c in
-    let first = c.first in
-    first_at start.args.maker.now start.args.depot.now start.args.sheet.now start.args.kit.now start.requires
-    first.result first.new.out c.is_list.result c.is_list.ensures first.ensures
+returns c = rw c.is_ok.ensures.value (first_at _ _ _ _ c.requires _ _ c.first.ensures)

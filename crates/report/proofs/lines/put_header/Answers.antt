@@ -8,12 +8,5 @@ use Rattle.report.proofs.lines.put_header.Goals as goal
 pub returns : goal.returns
 unfolding header_line
 returns c =
-    let four = c in
-    let three = four in
-    let two = three in
-    let one = two in
-    room_then
-    (room_then
-    (room_then (room_then one.put_field-a.ensures two.put_field-b.ensures) three.put_field-c.ensures)
-    four.put_field-d.ensures)
-    (room_of 1 c.put_byte.ensures (omega arith))
+    let three = room_then (room_then c.put_field-a.ensures c.put_field-b.ensures) c.put_field-c.ensures in
+    room_then (room_then three c.put_field-d.ensures) (room_of 1 c.put_byte.ensures (omega arith))

@@ -7,7 +7,4 @@ use Rattle.report.proofs.lines.put_refused.Goals as goal
 
 pub returns : goal.returns
 unfolding refused_line
-returns c =
-    let line_feed = c in
-    let words = line_feed in
-    room_then words.put_refused-next.ensures (room_of 1 line_feed.put_byte.ensures (omega arith))
+returns c = room_then c.put_refused-next.ensures (room_of 1 c.put_byte.ensures (omega arith))
