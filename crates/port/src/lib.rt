@@ -27,7 +27,8 @@ pub fn angatupyi_test<'a>(maker: &'a [u8], depot: &'a [u8], list: &[u8], answer:
     *answer = fits::numbers(test(maker, depot, list)).into();
 }
 
-// C has no slice to return, so the part is told by its table, start and length.
+// C has no slice to return, so the part is told by its table, start and length. An arm for each answer of Test: of a `_` the proof
+// cannot name what the answer was.
 pub fn angatupyi_show<'a>(maker: &'a [u8], depot: &'a [u8], list: &[u8], answer: &mut [u64; 3])
     ensures { answer.new ≡ three_of_part (shows_part maker.now depot.now list.now) }
 {
