@@ -1,4 +1,3 @@
-pub mod Keeping
 pub mod Replying
 pub mod Advancing
 pub mod Turning

@@ -8,26 +8,30 @@ use native.Mathlib.Omega.{arith}
 use native.Mathlib.Decide.{dec_lt}
 use lib.Dec.{eqb}
 use lib.ListN.{length, take, drop, length-take, length-drop}
-use lib.Seq.{take-take, drop-drop, length-take-le}
+use lib.Seq.{take_all, drop-drop}
 use Rattle.text.specs.Putting.{Put}
 use Rattle.text.proofs.Puts.{put_length, put_front}
 use Rattle.fields.specs.Cuts.{until, piece_from}
 use Rattle.calls.specs.Lines.{answer_of, reply_to}
 use Rattle.stream.specs.Input.{replies_to, output_for, output_in, Advanced}
-use Rattle.fields.proofs.Splitting.{pieces_more, piece_length}
+use Rattle.fields.proofs.Splitting.{pieces_more}
 use Rattle.calls.proofs.Answering.{answer_long}
 
 -- a line that is too long may be cut to any length that is too long
-pub reply_cut : (l : List ℕ) (k : ℕ) → 200000 < k → k ≤ length l → reply_to (take k l) ≡ reply_to l
+same_reply : (l : List ℕ) (k : ℕ) → 0 < k → answer_of (take k l) ≡ answer_of l → reply_to (take k l) ≡ reply_to l
 unfolding reply_to
-reply_cut l k far below =
-    at l k (omega arith) (answer_long (take k l) (omega (arith, length-take-le k l below)) ∙ sym (answer_long l (omega arith)))
+same_reply [] zero some e = refl
+same_reply [] (suc k) some e = refl
+same_reply (c ∷ l) zero some e = absurd (omega arith)
+same_reply (c ∷ l) (suc k) some e = ap (λ (x : List ℕ). cond (eqb c 35) [] (x ++ 10 ∷ [])) e
+
+pub reply_cut : (l : List ℕ) (k : ℕ) → min 200001 (length l) ≤ k → reply_to (take k l) ≡ reply_to l
+reply_cut l k enough = at (dec_lt 200000 (length l))
   where
-    at : (l : List ℕ) (k : ℕ) → 0 < k → answer_of (take k l) ≡ answer_of l → reply_to (take k l) ≡ reply_to l
-    at [] zero h e = refl
-    at [] (suc k) h e = refl
-    at (c ∷ l) zero h e = absurd (omega arith)
-    at (c ∷ l) (suc k) h e = ap (λ (x : List ℕ). cond (eqb c 35) [] (x ++ 10 ∷ [])) e
+    at : Dec (200000 < length l) → reply_to (take k l) ≡ reply_to l
+    at (yes far) =
+        same_reply l k (omega arith) (answer_long (take k l) (omega (arith, length-take k l)) ∙ sym (answer_long l far))
+    at (no near) = ap reply_to (take_all k l (omega arith))
 
 -- the first line of what is at hand is full, and is answered
 pub output_line : (l more : List ℕ) → until 10 l < length l →
@@ -49,21 +53,9 @@ replying_start input text =
 
 module _ {input : List ℕ} {size : ℕ} {text : List ℕ} {from at : ℕ} (s : Replying input size text from at) (end : ℕ)
     (stop : end ≡ from + until 10 (drop from input)) (full : end < length input) where
-  -- the line that is answered, cut where it is too long
-  cut_line : (last : ℕ) → last ≡ from + min 200001 (end - from) →
-      reply_to (take (last - from) (drop from input)) ≡ reply_to (piece_from 10 input from)
-  cut_line last e = at_size (dec_lt 200000 (until 10 (drop from input)))
-    where
-      at_size : Dec (200000 < until 10 (drop from input)) → reply_to (take (last - from) (drop from input)) ≡ reply_to (piece_from 10 input from)
-      at_size (yes far) =
-          let size : last - from ≡ 200001 = omega arith in
-          rw (size, ← (take-take 200001 (until 10 (drop from input)) (drop from input) (omega arith)))
-          (reply_cut (piece_from 10 input from) 200001 (omega arith) (omega (arith, piece_length 10 input from s.within)))
-      at_size (no near) = let size : last - from ≡ until 10 (drop from input) = omega arith in rw size
-
-  pub replying_next : (last : ℕ) → last ≡ from + min 200001 (end - from) → (new : List ℕ) (next : ℕ) → next ≤ length text →
-      Put text at (reply_to (take (last - from) (drop from input))) new next → Replying input size new (end + 1) next
-  replying_next last e new next room put =
+  pub replying_next : (new : List ℕ) (next : ℕ) → next ≤ length text → Put text at (reply_to (take (end - from) (drop from input))) new next →
+      Replying input size new (end + 1) next
+  replying_next new next room put =
       record {
         kept = put_length put ∙ s.kept;
         within = omega arith;
@@ -72,11 +64,14 @@ module _ {input : List ℕ} {size : ℕ} {text : List ℕ} {from at : ℕ} (s : 
             s.writes more
             ∙ ap (λ (x : List ℕ). take at text ++ x) (rest more)
             ∙ sym (append_assoc (take at text) (reply_to (piece_from 10 input from)) (output_for (drop (end + 1) input ++ more)))
-            ∙ ap (λ (x : List ℕ). take at text ++ x ++ output_for (drop (end + 1) input ++ more)) (sym (cut_line last e))
+            ∙ ap (λ (x : List ℕ). take at text ++ reply_to x ++ output_for (drop (end + 1) input ++ more)) piece
             ∙ ap (λ (x : List ℕ). x ++ output_for (drop (end + 1) input ++ more)) (sym (put_front (omega (arith, put.after)) put));
         start = λ none. absurd (omega arith);
       }
     where
+      piece : piece_from 10 input from ≡ take (end - from) (drop from input)
+      piece = let size : until 10 (drop from input) ≡ end - from = omega arith in ap (λ (k : ℕ). take k (drop from input)) size
+
       rest : (more : List ℕ) → output_for (drop from input ++ more) ≡ reply_to (piece_from 10 input from) ++ output_for (drop (end + 1) input ++ more)
       rest more =
           let after : from + suc (until 10 (drop from input)) ≡ end + 1 = omega arith in
@@ -84,13 +79,9 @@ module _ {input : List ℕ} {size : ℕ} {text : List ℕ} {from at : ℕ} (s : 
           ∙ ap (λ (x : List ℕ). reply_to (piece_from 10 input from) ++ output_for (x ++ more))
           (drop-drop (suc (until 10 (drop from input))) from input ∙ ap (λ (k : ℕ). drop k input) after)
 
-  -- it has no more characters than it may
-  pub cut_size : (last : ℕ) → last ≡ from + min 200001 (end - from) → length (take (last - from) (drop from input)) ≤ 200001
-  cut_size last e = omega (arith, length-take (last - from) (drop from input))
-
 -- a line is full, so one was answered
 pub replying_done : {input : List ℕ} {size : ℕ} {text : List ℕ} {from at : ℕ} → Replying input size text from at → (from ≡ 0 → ⊥) →
     Advanced input false text (record { from = from; at = at; skipping = false })
 unfolding output_in
 replying_done s some =
-    record { within = s.within; room = s.room; writes = s.writes; moves = λ none. absurd (some none) }
+    record { within = s.within; room = s.room; writes = s.writes; moves = omega (arith, some) }

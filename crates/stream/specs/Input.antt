@@ -1,6 +1,6 @@
 -- What is written for an input: the replies to its lines, in their order.
 -- Assumes nothing.
-use Rattle.std.specs.Prelude.{◌≡◌, Bool, true, false, List, [], ◌++◌, ℕ, ◌+◌, ◌≤◌, ◌<◌, length, take, drop}
+use Rattle.std.specs.Prelude.{◌≡◌, Bool, true, false, List, [], ◌++◌, ℕ, ◌+◌, ◌≤◌, ◌<◌, length, take, drop, Option, Some, None}
 use Rattle.text.specs.Spelling.{spelt}
 use Rattle.fields.specs.Cuts.{longest, cut_at, until}
 use Rattle.calls.specs.Lines.{reply_to}
@@ -25,17 +25,22 @@ pub record RoomForLines (text : List ℕ) : Type 0 where
   pub reply : longest + 102 ≤ length text
 
 -- what is done with the part of an input that is at hand: whatever input is still to come, what is put and what is written for the
--- rest is all that is written. Where nothing is passed over, the rest is no full line, and not too long
+-- rest is all that is written
 pub record Advanced (input : List ℕ) (skipping : Bool) (text : List ℕ) (r : Reached) : Type 0 where
   pub within : r.from ≤ length input
   pub room : r.at ≤ length text
   pub writes : (more : List ℕ) → output_in skipping (input ++ more) ≡ take r.at text ++ output_in r.skipping (drop r.from input ++ more)
-  pub moves : r.from ≡ 0 → (r.at ≡ 0) × (r.skipping ≡ skipping) × (length input ≤ longest) × (until 10 input ≡ length input)
+  pub moves : 0 < r.from
 
--- the input ends: a line without its line feed is answered all the same
-pub record Finished (input text : List ℕ) (at : ℕ) : Type 0 where
-  pub room : at ≤ length text
-  pub writes : output_for input ≡ take at text
+-- no full line is at hand, nor one that is too long
+pub record Pending (input : List ℕ) : Type 0 where
+  pub short : length input ≤ longest
+  pub begun : until 10 input ≡ length input
+
+-- some of the input is passed over; or nothing is done, and more of it is needed
+abbrev pub GoesOn : (input : List ℕ) (skipping : Bool) (text : List ℕ) → Option Reached → Type 0
+GoesOn input skipping text (Some r) = Advanced input skipping text r
+GoesOn input skipping text None = Pending input
 
 -- the promise of a turn. At hand are the first `size` bytes of the old buffer, and then those of the new one. Whatever is still to
 -- come, and nothing where the input has ended, what is put and what is written for the rest is all that is written. A turn gives

@@ -8,11 +8,6 @@ pub fn keep(input: &mut [u8], from: usize, end: usize) -> usize
     ensures value { result ≡ end - from }
     ensures input_after { take (end - from) input.new ≡ take (end - from) (drop from input.old) }
 {
-    let size = end - from;
-    let mut i = 0;
-    while i < size {
-        input[i] = input[from + i];
-        i += 1;
-    }
-    size
+    input.copy_within(from..end, 0);
+    end - from
 }

@@ -1,9 +1,11 @@
 // An input of lines, of which some part is at hand: its full lines are answered, as long as there is room for the answers.
 #![tactic(auto)]
 
-ghost use Rattle.std.specs.Prelude.{◌≡◌, true, false, List, ℕ, ◌+◌, ◌-◌, ◌≤◌, ◌<◌, min, length};
+ghost use Rattle.std.specs.Prelude.{true, false, List, ℕ, ◌+◌, ◌≤◌, ◌<◌, length};
+ghost use Rattle.text.specs.Putting.{PutWithin};
 ghost use Rattle.fields.specs.Cuts.{longest, until};
-ghost use Rattle.stream.specs.Input.{Advanced, Finished, RoomForLines, Turned};
+ghost use Rattle.calls.specs.Lines.{reply_to};
+ghost use Rattle.stream.specs.Input.{Advanced, GoesOn, RoomForLines, Turned};
 
 use crate::front::keep;
 use calls::reply::{LINE_FEED, LONGEST, reply};
@@ -19,7 +21,7 @@ const REPLY: usize = CUT + 101;
 
 // How far the replies have come: what is left of the input starts at `from`, and they end at `at`. If `skipping`, what is left starts
 // inside a line whose reply is already put.
-#[derive(Clone, Copy)]
+#[derive(Clone, Copy, Debug, PartialEq, Eq)]
 struct Reached {
     from: usize,
     at: usize,
@@ -28,7 +30,7 @@ struct Reached {
 
 // What is left at hand after a turn: the first `size` bytes of the buffer. If `skipping`, they start inside a line whose reply is already
 // put. The replies end at `at`. If `waits`, there is nothing to do before more is read.
-#[derive(Clone, Copy)]
+#[derive(Clone, Copy, Debug, PartialEq, Eq)]
 pub struct Left {
     pub size: usize,
     pub skipping: bool,
@@ -36,14 +38,13 @@ pub struct Left {
     pub waits: bool,
 }
 
-fn cut_end(from: usize, end: usize) -> usize
-    requires { from ≤ end }
-    ensures { result ≡ from + min (longest + 1) (end - from) }
+// Puts the reply to a line.
+fn put_reply(line: &[u8], text: &mut [u8], at: usize) -> usize
+    requires { at + (longest + 102) ≤ length text.old }
+    ensures { PutWithin (longest + 102) text.old at (reply_to line.now) text.new result }
 {
-    if CUT < end - from {
-        return from + CUT;
-    }
-    end
+    let size = line.len().min(CUT);
+    reply(&line[..size], text, at)
 }
 
 // Puts the replies to full lines, of which there is one at least, at the front of `text`.
@@ -56,28 +57,21 @@ fn replies(input: &[u8], text: &mut [u8]) -> Reached
     let mut at = 0;
     loop {
         let end = end_of(input, from, LINE_FEED);
-        if end == input.len() {
+        if end == input.len() || text.len() - at < REPLY {
             return Reached {
                 from,
                 at,
                 skipping: false,
             };
         }
-        if text.len() - at < REPLY {
-            return Reached {
-                from,
-                at,
-                skipping: false,
-            };
-        }
-        let last = cut_end(from, end);
-        at = reply(&input[from..last], text, at);
+        at = put_reply(&input[from..end], text, at);
         from = end + 1;
     }
 }
 
 // Passes over the rest of a line that is already answered. Nothing is put.
 fn skip(input: &[u8]) -> Reached
+    requires { 0 < length input.now }
     ensures { (text : List ℕ) → Advanced input.now true text result }
 {
     let end = end_of(input, 0, LINE_FEED);
@@ -95,41 +89,29 @@ fn skip(input: &[u8]) -> Reached
     }
 }
 
-// Goes on with an input of which this part is at hand, and puts what is to be written at the front of `text`. It passes over
-// nothing only where more input is needed: a line is not full yet, and not too long.
-fn advance(input: &[u8], skipping: bool, text: &mut [u8]) -> Reached
+// Goes on with an input of which this part is at hand, and puts what is to be written at the front of `text`; or does nothing, where
+// more input is needed: a line is not full yet, and not too long.
+fn advance(input: &[u8], skipping: bool, text: &mut [u8]) -> Option<Reached>
     requires { RoomForLines text.old }
-    ensures { Advanced input.now skipping text.new result }
+    ensures { GoesOn input.now skipping text.new result }
 {
+    if input.is_empty() {
+        return None;
+    }
     if skipping {
-        return skip(input);
+        return Some(skip(input));
     }
     if end_of(input, 0, LINE_FEED) < input.len() {
-        return replies(input, text);
+        return Some(replies(input, text));
     }
     if input.len() <= LONGEST {
-        return Reached {
-            from: 0,
-            at: 0,
-            skipping: false,
-        };
+        return None;
     }
-    let last = cut_end(0, input.len());
-    let at = reply(&input[0..last], text, 0);
-    Reached {
+    Some(Reached {
         from: input.len(),
-        at,
+        at: put_reply(input, text, 0),
         skipping: true,
-    }
-}
-
-// Puts what is written for the last line, where the input ends without a line feed.
-fn finish(input: &[u8], text: &mut [u8]) -> usize
-    requires room_for_lines { RoomForLines text.old }
-    requires input_len_bound { (length input.now ≤ longest) × (until 10 input.now ≡ length input.now) }
-    ensures { Finished input.now text.new result }
-{
-    reply(input, text, 0)
+    })
 }
 
 // One turn of a program: puts what is to be written at the front of `text`, and moves what is left of the first `size` bytes to the
@@ -139,29 +121,24 @@ pub fn turn(input: &mut [u8], size: usize, skipping: bool, ended: bool, text: &m
     requires size_in_bounds { size ≤ length input.old }
     ensures { Turned input.old size skipping ended input.new text.new result }
 {
-    let reached = advance(&input[0..size], skipping, text);
-    if 0 < reached.from {
-        return Left {
+    match advance(&input[..size], skipping, text) {
+        Some(reached) => Left {
             size: keep(input, reached.from, size),
             skipping: reached.skipping,
             at: reached.at,
             waits: false,
-        };
-    }
-    if ended {
-        if !skipping {
-            return Left {
-                size: 0,
-                skipping: false,
-                at: finish(&input[0..size], text),
-                waits: true,
-            };
-        }
-    }
-    Left {
-        size,
-        skipping,
-        at: 0,
-        waits: true,
+        },
+        None if ended && !skipping => Left {
+            size: 0,
+            skipping: false,
+            at: put_reply(&input[..size], text, 0),
+            waits: true,
+        },
+        None => Left {
+            size,
+            skipping,
+            at: 0,
+            waits: true,
+        },
     }
 }

@@ -12,7 +12,7 @@ pub returns-then-end-input : goal.returns-then-end-input
 returns-then-end-input c =
     let input = c.args.input.now in
     let e = c.end_of-end.ensures in
-    skip_on input (omega (arith, e, c.if-end-input.true)) _ (omega (arith, c.if-end-input.true))
+    skip_on input (omega arith) (omega (arith, e, c.if-end-input.true)) _ (omega (arith, c.if-end-input.true))
 
 pub overflow_add-result : goal.overflow_add-result
 overflow_add-result c = record {

@@ -1,50 +1,20 @@
 -- `stream::turn` meets its contract: what is left is kept, or waits for more, or is the last line.
 -- Assumes nothing.
-use mathlib.Core.Path.{sym, ◌∙◌}
-use mathlib.Core.Bool.{true≢false}
 use native.Mathlib.Omega.{arith}
 use Rattle.stream.proofs.Turning.{turned_kept, turned_waits, turned_ends}
 use Rattle.stream.proofs.turn.Goals as goal
 
-pub returns-then-reached-gt0 : goal.returns-then-reached-gt0
-returns-then-reached-gt0 c =
-    let keep = c.keep in
-    let met = c in
-    let done = met in
-    let start = done in
-    turned_kept start.args.input.now start.args.size start.requires.size_in_bounds done.advance-reached.ensures met.if-reached-gt0.true start.args.ended _ _
-    keep.auto.input keep.ensures.value keep.ensures.input_after
+pub returns-in-Some : goal.returns-in-Some
+returns-in-Some c =
+    turned_kept c.args.input.now c.args.size c.requires.size_in_bounds c.in-Some.ensures c.args.ended _ _ c.keep.auto.input
+    c.keep.ensures.value c.keep.ensures.input_after
 
-pub finish-requires : goal.finish-requires
-finish-requires c =
-    let met = c in
-    let done = met in
-    let start = done in
-    let moves = done.advance-reached.ensures.moves (omega (arith, met.if-reached-gt0.false)) in
-    record { room_for_lines = record { reply = omega (arith, start.requires.room_for_lines.reply, done.advance-reached.auto) }; input_len_bound = (moves.2, moves.3) }
+pub returns-in-None : goal.returns-in-None
+returns-in-None c =
+    turned_ends c.args.input.now c.args.size c.requires.size_in_bounds c.in-None.ensures c.args.ended _ _ _ c.if-ended.true
+    c.if-not-skipping.true (omega (arith, c.requires.room_for_lines.reply, c.advance.auto.text)) c.put_reply.ensures
 
-pub returns-then-not-skipping : goal.returns-then-not-skipping
-returns-then-not-skipping c =
-    let finished = c in
-    let new = finished in
-    let met = new in
-    let done = met in
-    let start = done in
-    turned_ends start.args.input.now start.args.size start.requires.size_in_bounds done.advance-reached.ensures (omega (arith, met.if-reached-gt0.false)) start.args.ended _ _
-    new.if-ended.true new.if-not-skipping.true finished.finish.ensures
-
-pub returns-else-not-skipping : goal.returns-else-not-skipping
-returns-else-not-skipping c =
-    let met = c in
-    let done = met in
-    let start = done in
-    turned_waits start.args.input.now start.args.size start.requires.size_in_bounds done.advance-reached.ensures (omega (arith, met.if-reached-gt0.false)) start.args.ended _
+pub returns-in-None-2 : goal.returns-in-None-2
+returns-in-None-2 c =
+    turned_waits c.args.input.now c.args.size c.requires.size_in_bounds c.in-None-2.ensures c.args.ended _
     (λ e. c.if-not-skipping.false)
-
-pub returns-else-ended : goal.returns-else-ended
-returns-else-ended c =
-    let met = c in
-    let done = met in
-    let start = done in
-    turned_waits start.args.input.now start.args.size start.requires.size_in_bounds done.advance-reached.ensures (omega (arith, met.if-reached-gt0.false)) start.args.ended _
-    (λ e. absurd (true≢false (sym e ∙ c.if-ended.false)))
