@@ -2,7 +2,7 @@
 // here is only what reads and writes.
 #![tactic(auto)]
 
-ghost use Rattle.std.specs.Prelude.{◌≡◌, ◌≤◌, length, IfOk};
+ghost use Rattle.std.specs.Prelude.{◌≤◌, length, IfOk, IfSome};
 ghost use Rattle.stream.specs.Input.{RoomForLines};
 
 use std::fmt;
@@ -24,33 +24,16 @@ impl fmt::Display for Failure {
     }
 }
 
-// What is at hand is the first `size` bytes of the input's buffer; `skipping` is what the last turn said of them. There are more turns
-// only while `going`.
-#[derive(Drop)]
+// What is at hand is the first `size` bytes of the input's buffer; `skipping` is what the last turn said of them.
+#[derive(Clone, Copy)]
 struct State {
     size: usize,
     skipping: bool,
     ended: bool,
-    going: bool,
 }
 
 // A line that is not too long leaves room to read more, and the longest answer leaves room for others.
-fn page() -> [u8; 400000]
-    ensures { 400000 ≡ length result }
-{
-    [0; 400000]
-}
-
-fn stop() -> State
-    ensures { result.size ≡ 0 }
-{
-    State {
-        size: 0,
-        skipping: false,
-        ended: true,
-        going: false,
-    }
-}
+const PAGE: usize = 400000;
 
 fn write(rt: &impl Print, text: &[u8]) -> Result<(), Failure> {
     rt.write_all(text).map_err(|error| Failure {
@@ -77,37 +60,36 @@ fn read_more(
         size: size + more,
         skipping,
         ended: more == 0,
-        going: true,
     })
 }
 
+// One turn, and what more of the input is read after it; none where the input has ended and all is written.
 fn turn(
     rt: &impl Print,
     source: &mut impl Read,
     state: State,
     input: &mut [u8],
     text: &mut [u8],
-) -> Result<State, Failure>
+) -> Result<Option<State>, Failure>
     requires room_for_lines { RoomForLines text.old }
     requires size_in_bounds { state.size ≤ length input.old }
-    ensures { IfOk result (λ state. state.size ≤ length input.new) }
+    ensures { IfOk result (λ next. IfSome next (λ state. state.size ≤ length input.new)) }
 {
     let ended = state.ended;
     let left = stream::turn(input, state.size, state.skipping, ended, text);
-    let at = left.at;
-    write(rt, &text[0..at])?;
+    write(rt, &text[..left.at])?;
+    let (size, skipping) = (left.size, left.skipping);
     if !left.waits {
-        return Ok(State {
-            size: left.size,
-            skipping: left.skipping,
+        return Ok(Some(State {
+            size,
+            skipping,
             ended,
-            going: true,
-        });
+        }));
     }
     if ended {
-        return Ok(stop());
+        return Ok(None);
     }
-    read_more(source, input, left.size, left.skipping)
+    Ok(Some(read_more(source, input, size, skipping)?))
 }
 
 // A proved loop has to end, and nothing says that the input does. So the turns are counted, up to more than any run makes.
@@ -123,21 +105,20 @@ fn turns(
         size: 0,
         skipping: false,
         ended: false,
-        going: true,
     };
     for _ in 0..u64::MAX {
-        state = turn(rt, source, state, input, text)?;
-        if !state.going {
+        let Some(next) = turn(rt, source, state, input, text)? else {
             break;
-        }
+        };
+        state = next;
     }
     Ok(())
 }
 
 fn main(rt: HostRuntime) -> ExitCode {
     let mut source = rt.stdin();
-    let mut input = page();
-    let mut text = page();
+    let mut input = [0; PAGE];
+    let mut text = [0; PAGE];
     match turns(&rt, &mut source, &mut input, &mut text) {
         Ok(()) => ExitCode::SUCCESS,
         Err(failure) => {
