@@ -65,7 +65,9 @@ impl Call {
     }
 }
 
-// Puts the answer to the fields. There is room for N bytes of them, two characters a byte, and for as many in each lent buffer.
+// Puts the answer to the fields. There is room for N bytes of them, two characters a byte, and for as many in each lent buffer. The rooms
+// stand in this function's own frame: in a caller's, every line would pay for the largest.
+#[inline(never)]
 fn answer_with<const N: usize>(
     call: Call,
     line: &[u8],
