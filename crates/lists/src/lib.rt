@@ -1,12 +1,10 @@
 // The public operations First and Next.
-#![tactic(auto, using(crate::proofs::Calls::first_order, crate::proofs::Calls::next_order))]
+#![tactic(auto)]
 
 ghost use Rattle.std.specs.Prelude.{◌≡◌, length, IfSome};
-ghost use Rattle.spec.specs.Records.{rules_in};
 ghost use Rattle.spec.specs.Refusals.{is_answered};
 ghost use Rattle.spec.proofs.Accepted.{AcceptedSheet};
 ghost use Rattle.refusals.specs.Telling.{numbers_of, in_order};
-ghost use Rattle.search.specs.Look.{Asks};
 ghost use Rattle.lists.specs.Answer.{listed_says, handed_numbers, FirstDoes, NextDoes, Chosen};
 
 use accept::{check_next, check_order};
@@ -43,7 +41,7 @@ fn choose_accepted(
     requires accepted_sheet { AcceptedSheet t.n t.maker.now t.depot.now sheet.now }
     requires out_len { length out.old ≡ t.n }
     requires given_len { IfSome given (λ list. length list.now ≡ t.n) }
-    ensures { Chosen (Asks (rules_in t.entry.maker.now t.entry.depot.now) t.entry.n sheet.now given.entry) out.old result out.new }
+    ensures { Chosen t.entry.n t.entry.maker.now t.entry.depot.now sheet.now given.entry out.old result out.new }
 {
     let mut states = [OPEN; 256];
     load(sheet, &mut states);
@@ -54,6 +52,7 @@ fn choose_accepted(
     Ok(())
 }
 
+#[tactic(auto, using(crate::proofs::Calls::first_order, crate::proofs::Calls::first_does), unfolding(spec::specs::Kits::first_says, spec::specs::Kits::first_writes))]
 pub fn first<'a>(
     maker: &'a [u8],
     depot: &'a [u8],
@@ -67,6 +66,7 @@ pub fn first<'a>(
     choose_accepted(Tables { maker, depot, n }, sheet, None, out)
 }
 
+#[tactic(auto, using(crate::proofs::Calls::next_order, crate::proofs::Calls::next_does), unfolding(spec::specs::Kits::next_says, spec::specs::Kits::next_writes))]
 pub fn next<'a>(
     maker: &'a [u8],
     depot: &'a [u8],
