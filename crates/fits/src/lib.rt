@@ -30,6 +30,7 @@ pub fn numbers(answer: Result<Verdict, Refusal>) -> Numbers
 }
 
 // What Test has left to say once the checks have passed.
+#[tactic(auto, unfolding(spec::specs::Fits::test_judges))]
 fn test_accepted(t: Tables, list: &[u8]) -> Verdict
     ensures { answered (verdict_of result) ≡ test_judges t.entry.maker.now t.entry.depot.now list.now }
 {
@@ -39,6 +40,7 @@ fn test_accepted(t: Tables, list: &[u8]) -> Verdict
     }
 }
 
+#[tactic(auto, using(spec::proofs::Accepted::test_accepted), unfolding(spec::specs::Fits::test_says))]
 pub fn test<'a>(maker: &'a [u8], depot: &'a [u8], list: &[u8]) -> Result<Verdict, Refusal>
     ensures { tested_says result ≡ test_says maker.now depot.now list.now }
 {
@@ -49,6 +51,7 @@ pub fn test<'a>(maker: &'a [u8], depot: &'a [u8], list: &[u8]) -> Result<Verdict
 
 // What Show has left to show once the checks have passed. The empty part at the start of the maker's table stands for every answer of
 // Test that names no record.
+#[tactic(auto, unfolding(spec::specs::Fits::test_judges, spec::specs::Fits::bytes_of))]
 fn show_accepted<'a>(t: Tables<'a>, list: &[u8]) -> &'a [u8]
     ensures { Shows t.entry.maker t.entry.depot (part_for t.entry.maker.now (test_judges t.entry.maker.now t.entry.depot.now list.now)) result }
 {
@@ -61,6 +64,7 @@ fn show_accepted<'a>(t: Tables<'a>, list: &[u8]) -> &'a [u8]
     }
 }
 
+#[tactic(auto, using(spec::proofs::Accepted::test_accepted), unfolding(spec::specs::Fits::shows_part, spec::specs::Fits::test_says, spec::specs::Fits::bytes_of))]
 pub fn show<'a>(maker: &'a [u8], depot: &'a [u8], list: &[u8]) -> &'a [u8]
     ensures { Shows maker.entry depot.entry (shows_part maker.now depot.now list.now) result }
 {

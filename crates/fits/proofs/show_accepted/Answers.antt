@@ -16,19 +16,11 @@ use Rattle.records.proofs.Tables.{LiesIn, lies}
 use Rattle.fits.proofs.Says.{judged_broken, judged_fits, shows_as}
 use Rattle.fits.proofs.show_accepted.Goals as goal
 
-eight_bytes_lem : (t : List ℕ) (at : ℕ) → take (at + 8 - at) (drop at t) ≡ take 8 (drop at t)
-eight_bytes_lem t at = ap (λ (k : ℕ). take k (drop at t)) (add-sub_cancel_left at 8)
-
 -- the first broken record lies where `place_of` says
 lies_whole : {maker depot : List ℕ} (l : List ℕ) {i : ℕ} {p : Part} → WholeRecords maker depot →
     Some i ≡ if_below (first_broken maker depot l) (record_count maker depot) → p ≡ record_part maker i → LiesIn maker depot i p
 lies_whole {maker} {depot} l whole found is =
     let at = some_below (first_broken maker depot l) (record_count maker depot) found in lies whole (omega arith) is
-
-pub returns-in_default : goal.returns-in_default
-unfolding bytes_of
-returns-in_default c =
-    shows_as (sym (ap (part_for _) (judged_fits _ _ _ c.in_default.ensures))) (record { table = refl; offset = refl; bytes = refl })
 
 pub overflow_add-result : goal.overflow_add-result
 overflow_add-result c =
@@ -45,17 +37,3 @@ overflow_add-result-in-Depot c =
 pub slice_bounds-result-end-in-Depot : goal.slice_bounds-result-end-in-Depot
 slice_bounds-result-end-in-Depot c =
     let at = lies_whole _ c.args.t.accepted.whole c.in-Some.ensures c.in-Depot.ensures in omega (arith, at.within)
-
-pub returns-in-Maker : goal.returns-in-Maker
-unfolding bytes_of
-returns-in-Maker c =
-    let said = judged_broken _ _ _ c.in-Some.ensures in
-    shows_as (sym (ap (part_for _) said) ∙ sym c.in-Maker.ensures)
-    (record { table = refl; offset = refl; bytes = eight_bytes_lem c.args.t.maker.now c.in-Maker.start })
-
-pub returns-in-Depot : goal.returns-in-Depot
-unfolding bytes_of
-returns-in-Depot c =
-    let said = judged_broken _ _ _ c.in-Some.ensures in
-    shows_as (sym (ap (part_for _) said) ∙ sym c.in-Depot.ensures)
-    (record { table = refl; offset = refl; bytes = eight_bytes_lem c.args.t.depot.now c.in-Depot.start })
