@@ -1,5 +1,5 @@
 // The public operation Fill: the checks, the engine, and what is written.
-#![tactic(auto, using(crate::proofs::Says::filled_size, crate::proofs::Says::fill_order))]
+#![tactic(auto, using(crate::proofs::Says::filled_size))]
 
 ghost use Rattle.std.specs.Prelude.{◌≡◌, ◌≤◌, length};
 ghost use Rattle.spec.proofs.Accepted.{AcceptedSheet};
@@ -53,6 +53,7 @@ fn fill_accepted(t: Tables, sheet: &[u8], out: &mut [u8]) -> Result<usize, Refus
     hand_out(t, sheet, &states[..t.n], out)
 }
 
+#[tactic(auto, using(crate::proofs::Says::fill_order), unfolding(spec::specs::Fill::fill_says, spec::specs::Fill::fill_writes))]
 pub fn fill<'a>(
     maker: &'a [u8],
     depot: &'a [u8],

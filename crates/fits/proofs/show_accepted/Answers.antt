@@ -1,19 +1,16 @@
 -- `fits::show_accepted` meets its contract: a broken record's bytes lie whole in the table that is shown.
 -- Assumes nothing.
-use mathlib.Core.Path.{◌≡◌, refl, sym, ◌∙◌, ap}
+use mathlib.Core.Path.{◌≡◌}
 use mathlib.Core.List.{List}
-use Prim.Native.Nat.{ℕ, ◌+◌, ◌-◌}
-use native.Mathlib.Nat.{add-sub_cancel_left}
+use Prim.Native.Nat.{ℕ}
 use native.Mathlib.Omega.{arith}
-use lib.ListN.{take, drop}
 use Rattle.std.proofs.Common.{Some}
 use Rattle.lemmas.specs.Lowest.{if_below}
 use Rattle.lemmas.proofs.Lowest.{some_below}
 use Rattle.spec.specs.Records.{record_count}
-use Rattle.spec.specs.Fits.{Part, part_for, first_broken, record_part, bytes_of}
+use Rattle.spec.specs.Fits.{Part, first_broken, record_part}
 use Rattle.spec.proofs.Accepted.{WholeRecords}
 use Rattle.records.proofs.Tables.{LiesIn, lies}
-use Rattle.fits.proofs.Says.{judged_broken, judged_fits, shows_as}
 use Rattle.fits.proofs.show_accepted.Goals as goal
 
 -- the first broken record lies where `place_of` says
