@@ -13,6 +13,7 @@ use desk::{Refusal, Verdict};
 use fields::field::SPACE;
 use text::{put_byte, put_bytes, put_field, put_hex};
 
+#[tactic(auto, using(text::proofs::Puts::put_then))]
 pub fn put_error(text: &mut [u8], at: usize, reason: &[u8]) -> usize
     requires { at + 6 + length reason.now ≤ length text.old }
     ensures { Put text.old at (error_for reason.now) text.new result }
@@ -22,6 +23,7 @@ pub fn put_error(text: &mut [u8], at: usize, reason: &[u8]) -> usize
 }
 
 // A space, and the bytes of a buffer.
+#[tactic(auto, using(text::proofs::Puts::put_then, text::proofs::Puts::put_length, text::proofs::Rooms::hex_length))]
 pub fn put_buffer(text: &mut [u8], at: usize, bytes: &[u8]) -> usize
     requires { at + 2 + 2 * length bytes.now ≤ length text.old }
     ensures { PutWithin (2 + 2 * length bytes.now) text.old at (spaced bytes.now) text.new result }

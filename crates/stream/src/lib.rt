@@ -70,6 +70,7 @@ fn replies(input: &[u8], text: &mut [u8]) -> Reached
 }
 
 // Passes over the rest of a line that is already answered. Nothing is put.
+#[tactic(auto, using(fields::proofs::Splitting::until_below, crate::proofs::Advancing::skip_on, crate::proofs::Advancing::skip_end))]
 fn skip(input: &[u8]) -> Reached
     requires { 0 < length input.now }
     ensures { (text : List ℕ) → Advanced input.now true text result }
@@ -91,6 +92,7 @@ fn skip(input: &[u8]) -> Reached
 
 // Goes on with an input of which this part is at hand, and puts what is to be written at the front of `text`; or does nothing, where
 // more input is needed: a line is not full yet, and not too long.
+#[tactic(auto, using(fields::proofs::Splitting::until_below, crate::proofs::Advancing::advance_long))]
 fn advance(input: &[u8], skipping: bool, text: &mut [u8]) -> Option<Reached>
     requires { RoomForLines text.old }
     ensures { GoesOn input.now skipping text.new result }
