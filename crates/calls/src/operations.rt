@@ -28,7 +28,7 @@ pub fn answer_test(parts: Parts, text: &mut [u8], at: usize) -> usize
     put_tested(text, at, answer)
 }
 
-#[tactic(auto, using(text::proofs::Puts::put_then, text::proofs::Puts::put_length, text::proofs::Rooms::hex_length, crate::proofs::Shown::shown_short))]
+#[tactic(auto, using(text::proofs::Puts::put_then, text::proofs::Rooms::hex_length, crate::proofs::Shown::shown_short))]
 pub fn answer_show(parts: Parts, text: &mut [u8], at: usize) -> usize
     requires { at + 100 + 2 * get_or parts.ends 8 0 ≤ length text.old }
     ensures { Answered parts.entry.bytes.now parts.entry.ends show_answer text.old at text.new result }
