@@ -12,7 +12,7 @@ use engine::run;
 use records::states::OPEN;
 use refusals::{Numbers, Refusal, done};
 use sheet::{count_filled, count_open, load, store};
-use tables::Tables;
+use tables::{Order, Tables};
 
 pub fn numbers(answer: Result<usize, Refusal>) -> Numbers
     ensures { in_order result ≡ numbers_of done_with (filled_says answer) }
@@ -24,33 +24,31 @@ pub fn numbers(answer: Result<usize, Refusal>) -> Numbers
 }
 
 // A filled sheet with no open box is tested once more before it is written.
-fn hand_out(t: Tables, sheet: &[u8], filled: &[u8], out: &mut [u8]) -> Result<usize, Refusal>
-    requires sheet_len_bound { length sheet.now ≤ 256 }
-    requires fills_to { FillsTo t.maker.now t.depot.now sheet.now filled.now }
-    requires out_len { length out.old ≡ length sheet.now }
-    ensures { FillDoesInForm t.entry.maker.now t.entry.depot.now sheet.now out.old result out.new }
+fn hand_out(order: Order, filled: &[u8], out: &mut [u8]) -> Result<usize, Refusal>
+    requires fills_to { FillsTo order.tables.maker.now order.tables.depot.now order.sheet.now filled.now }
+    requires out_len { length out.old ≡ order.tables.n }
+    ensures { FillDoesInForm order.entry.tables.maker.now order.entry.tables.depot.now order.entry.sheet.now out.old result out.new }
 {
     if count_open(filled) == 0 {
-        if let Some(i) = first_broken(t.maker, t.depot, filled) {
+        if let Some(i) = first_broken(order.tables.maker, order.tables.depot, filled) {
             return Err(Refusal::Broken(i));
         }
     }
     store(filled, out);
-    Ok(count_filled(sheet, filled))
+    Ok(count_filled(order.sheet, filled))
 }
 
 // What is left to do once the checks have passed.
-fn fill_accepted(t: Tables, sheet: &[u8], out: &mut [u8]) -> Result<usize, Refusal>
-    requires accepted_sheet { AcceptedSheet t.n t.maker.now t.depot.now sheet.now }
-    requires out_len { length out.old ≡ t.n }
-    ensures { FillDoesInForm t.entry.maker.now t.entry.depot.now sheet.now out.old result out.new }
+fn fill_accepted(order: Order, out: &mut [u8]) -> Result<usize, Refusal>
+    requires { length out.old ≡ order.tables.n }
+    ensures { FillDoesInForm order.entry.tables.maker.now order.entry.tables.depot.now order.entry.sheet.now out.old result out.new }
 {
     let mut states = [OPEN; 256];
-    load(sheet, &mut states);
-    let Ok(()) = run(t, &mut states) else {
+    load(order.sheet, &mut states);
+    let Ok(()) = run(order.tables, &mut states) else {
         return Err(Refusal::Clash);
     };
-    hand_out(t, sheet, &states[..t.n], out)
+    hand_out(order, &states[..order.tables.n], out)
 }
 
 #[tactic(auto, using(crate::proofs::Says::fill_order), unfolding(spec::specs::Fill::fill_says, spec::specs::Fill::fill_writes))]
@@ -64,5 +62,6 @@ pub fn fill<'a>(
 {
     check_order(maker, depot, sheet, &out[..])?;
     let n = sheet.len();
-    fill_accepted(Tables { maker, depot, n }, sheet, out)
+    let tables = Tables { maker, depot, n };
+    fill_accepted(Order { tables, sheet }, out)
 }

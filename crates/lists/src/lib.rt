@@ -3,7 +3,6 @@
 
 ghost use Rattle.std.specs.Prelude.{◌≡◌, length, IfSome};
 ghost use Rattle.spec.specs.Refusals.{is_answered};
-ghost use Rattle.spec.proofs.Accepted.{AcceptedSheet};
 ghost use Rattle.refusals.specs.Telling.{numbers_of, in_order};
 ghost use Rattle.lists.specs.Answer.{listed_says, handed_numbers, FirstDoes, NextDoes, Chosen};
 
@@ -12,7 +11,7 @@ use records::states::OPEN;
 use refusals::{Numbers, Refusal, done};
 use search::search;
 use sheet::{Sheet, load, store};
-use tables::Tables;
+use tables::{Order, Tables};
 
 pub fn numbers(answer: Result<(), Refusal>) -> Numbers
     ensures { in_order result ≡ numbers_of handed_numbers (listed_says answer) }
@@ -32,23 +31,17 @@ pub fn is_list(answer: Result<(), Refusal>) -> bool
 
 // What is left to do once the checks have passed: writes the first kit of the sheet, and where a list is given, the first strictly
 // after it.
-fn choose_accepted(
-    t: Tables,
-    sheet: &[u8],
-    given: Option<&[u8]>,
-    out: &mut [u8],
-) -> Result<(), Refusal>
-    requires accepted_sheet { AcceptedSheet t.n t.maker.now t.depot.now sheet.now }
-    requires out_len { length out.old ≡ t.n }
-    requires given_len { IfSome given (λ list. length list.now ≡ t.n) }
-    ensures { Chosen t.entry.n t.entry.maker.now t.entry.depot.now sheet.now given.entry out.old result out.new }
+fn choose_accepted(order: Order, given: Option<&[u8]>, out: &mut [u8]) -> Result<(), Refusal>
+    requires out_len { length out.old ≡ order.tables.n }
+    requires given_len { IfSome given (λ list. length list.now ≡ order.tables.n) }
+    ensures { Chosen order.entry.tables.n order.entry.tables.maker.now order.entry.tables.depot.now order.entry.sheet.now given.entry out.old result out.new }
 {
     let mut states = [OPEN; 256];
-    load(sheet, &mut states);
-    let Some(kit) = search(t, Sheet { states }, given) else {
+    load(order.sheet, &mut states);
+    let Some(kit) = search(order.tables, Sheet { states }, given) else {
         return Err(Refusal::NoList);
     };
-    store(&kit.states[..t.n], out);
+    store(&kit.states[..order.tables.n], out);
     Ok(())
 }
 
@@ -63,7 +56,8 @@ pub fn first<'a>(
 {
     check_order(maker, depot, sheet, &out[..])?;
     let n = sheet.len();
-    choose_accepted(Tables { maker, depot, n }, sheet, None, out)
+    let tables = Tables { maker, depot, n };
+    choose_accepted(Order { tables, sheet }, None, out)
 }
 
 #[tactic(auto, using(crate::proofs::Calls::next_order, crate::proofs::Calls::next_does), unfolding(spec::specs::Kits::next_says, spec::specs::Kits::next_writes))]
@@ -78,5 +72,6 @@ pub fn next<'a>(
 {
     check_next(maker, depot, sheet, given, &out[..])?;
     let n = sheet.len();
-    choose_accepted(Tables { maker, depot, n }, sheet, Some(given), out)
+    let tables = Tables { maker, depot, n };
+    choose_accepted(Order { tables, sheet }, Some(given), out)
 }

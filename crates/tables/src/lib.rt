@@ -4,7 +4,7 @@
 
 ghost use Rattle.std.specs.Prelude.{◌≡◌, ◌<◌};
 ghost use Rattle.spec.specs.Records.{record_at, record_count};
-ghost use Rattle.spec.proofs.Accepted.{Accepted};
+ghost use Rattle.spec.proofs.Accepted.{Accepted, AcceptedSheet};
 ghost use Rattle.records.specs.Record.{as_rec};
 
 use records::Record;
@@ -31,4 +31,12 @@ impl<'a> Tables<'a> {
     {
         records::record_at(self.maker, self.depot, number)
     }
+}
+
+// And with the sheet of an order, once its bytes are accepted too.
+#[derive(Clone, Copy)]
+pub struct Order<'a, 'b> {
+    pub tables: Tables<'a>,
+    pub sheet: &'b [u8],
+    ghost accepted: { AcceptedSheet tables.n tables.maker.now tables.depot.now sheet.now },
 }

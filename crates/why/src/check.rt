@@ -10,7 +10,7 @@ use crate::given::given;
 use crate::lines::{Reason, line_at};
 use records::states::OPEN;
 use sheet::load;
-use tables::Tables;
+use tables::{Order, Tables};
 
 // Whether a line is right on these states.
 #[tactic(auto, using(crate::proofs::Codes::line_tests), unfolding(crate::specs::Read::right_on))]
@@ -28,17 +28,16 @@ fn is_right(t: Tables, states: &[u8; 256], a: Reason) -> bool
 }
 
 // The first wrong line.
-pub fn first_wrong(t: Tables, sheet: &[u8], lines: &[u8]) -> Option<usize>
-    requires accepted_sheet { AcceptedSheet t.n t.maker.now t.depot.now sheet.now }
-    requires lines_len { length lines.now % 8 ≡ 0 }
-    ensures { result ≡ lowest_if_any (λ k. not (right t.entry.maker.now t.entry.depot.now sheet.now lines.now k))
+pub fn first_wrong(order: Order, lines: &[u8]) -> Option<usize>
+    requires { length lines.now % 8 ≡ 0 }
+    ensures { result ≡ lowest_if_any (λ k. not (right order.entry.tables.maker.now order.entry.tables.depot.now order.entry.sheet.now lines.now k))
         (line_count lines.now) }
 {
     let mut states = [OPEN; 256];
-    load(sheet, &mut states);
+    load(order.sheet, &mut states);
     for k in 0..lines.len() / 8 {
         let a = line_at(lines, k);
-        if !is_right(t, &states, a) {
+        if !is_right(order.tables, &states, a) {
             return Some(k);
         }
         states[a.b] = a.state;

@@ -21,18 +21,17 @@ use make::make_lines;
 use records::states::OPEN;
 use refusals::Refusal;
 use sheet::load;
-use tables::Tables;
+use tables::{Order, Tables};
 
 // What the checker has left to say once tables and sheet have passed.
 #[tactic(auto, unfolding(whylists::specs::Says::why_check_judges, whylists::specs::Says::length_check, whylists::specs::Says::lines_check))]
-fn vet_accepted(t: Tables, sheet: &[u8], lines: &[u8]) -> Result<(), Refusal>
-    requires { AcceptedSheet t.n t.maker.now t.depot.now sheet.now }
-    ensures { vetted_says result ≡ why_check_judges t.entry.maker.now t.entry.depot.now sheet.now lines.now }
+fn vet_accepted(order: Order, lines: &[u8]) -> Result<(), Refusal>
+    ensures { vetted_says result ≡ why_check_judges order.entry.tables.maker.now order.entry.tables.depot.now order.entry.sheet.now lines.now }
 {
     if lines.len() % 8 != 0 {
         return Err(Refusal::LinesLength);
     }
-    match first_wrong(t, sheet, lines) {
+    match first_wrong(order, lines) {
         Some(k) => Err(Refusal::WrongLine(k)),
         None => Ok(()),
     }
@@ -49,21 +48,21 @@ pub fn why_check<'a>(
 {
     check_sheet_call(maker, depot, sheet)?;
     let n = sheet.len();
-    vet_accepted(Tables { maker, depot, n }, sheet, lines)
+    let tables = Tables { maker, depot, n };
+    vet_accepted(Order { tables, sheet }, lines)
 }
 
 // What the maker has left to do once the checks have passed: nothing is written before a clash is ruled out.
-fn why_accepted(t: Tables, sheet: &[u8], out: &mut [u8]) -> Result<usize, Refusal>
-    requires accepted_sheet { AcceptedSheet t.n t.maker.now t.depot.now sheet.now }
-    requires out_len { length out.old ≡ 8 * t.n }
-    ensures { WhyDoesInForm t.entry.maker.now t.entry.depot.now sheet.now out.old result out.new }
+fn why_accepted(order: Order, out: &mut [u8]) -> Result<usize, Refusal>
+    requires { length out.old ≡ 8 * order.tables.n }
+    ensures { WhyDoesInForm order.entry.tables.maker.now order.entry.tables.depot.now order.entry.sheet.now out.old result out.new }
 {
     let mut states = [OPEN; 256];
-    load(sheet, &mut states);
-    let Ok(()) = run(t, &mut states) else {
+    load(order.sheet, &mut states);
+    let Ok(()) = run(order.tables, &mut states) else {
         return Err(Refusal::Clash);
     };
-    Ok(make_lines(t, sheet, out))
+    Ok(make_lines(order, out))
 }
 
 // The maker's checks of form: 1, 2, 3, 4, 5 at place 1.
@@ -86,5 +85,6 @@ pub fn why<'a>(
 {
     check_why(maker, depot, sheet, &out[..])?;
     let n = sheet.len();
-    why_accepted(Tables { maker, depot, n }, sheet, out)
+    let tables = Tables { maker, depot, n };
+    why_accepted(Order { tables, sheet }, out)
 }

@@ -9,7 +9,7 @@ use crate::given::given;
 use crate::next::next_line;
 use records::states::OPEN;
 use sheet::load;
-use tables::Tables;
+use tables::Order;
 use text::put_bytes;
 
 // The eight bytes of a line.
@@ -24,13 +24,13 @@ fn line_bytes(b: usize, state: u8, number: usize) -> [u8; 8]
 }
 
 // Writes our list at the head of the buffer, and answers how many lines it has.
-pub fn make_lines(t: Tables, sheet: &[u8], out: &mut [u8]) -> usize
-    requires accepted_sheet { AcceptedSheet t.n t.maker.now t.depot.now sheet.now }
-    requires out_len { length out.old ≡ 8 * t.n }
-    ensures { Made t.entry.maker.now t.entry.depot.now sheet.now out.old out.new result }
+pub fn make_lines(order: Order, out: &mut [u8]) -> usize
+    requires { length out.old ≡ 8 * order.tables.n }
+    ensures { Made order.entry.tables.maker.now order.entry.tables.depot.now order.entry.sheet.now out.old out.new result }
 {
+    let t = order.tables;
     let mut states = [OPEN; 256];
-    load(sheet, &mut states);
+    load(order.sheet, &mut states);
     for k in 0..t.n {
         let Some(next) = next_line(t, &states) else {
             return k;

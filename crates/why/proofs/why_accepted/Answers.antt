@@ -4,7 +4,7 @@ use Rattle.why.proofs.Judging.{clashed, explained}
 use Rattle.why.proofs.why_accepted.Goals as goal
 
 pub returns-in_default : goal.returns-in_default
-returns-in_default c = clashed _ _ _ c.args.out.now c.requires.accepted_sheet c.load.ensures c.in_default.ensures
+returns-in_default c = clashed _ _ _ c.args.out.now c.args.order.accepted c.load.ensures c.in_default.ensures
 
 pub returns : goal.returns
-returns c = explained _ _ _ _ c.requires.accepted_sheet c.load.ensures c.requires.out_len c.in-Ok.ensures c.make_lines.ensures
+returns c = explained _ _ _ _ c.args.order.accepted c.load.ensures c.requires c.in-Ok.ensures c.make_lines.ensures

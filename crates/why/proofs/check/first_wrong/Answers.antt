@@ -40,14 +40,14 @@ module _ (maker depot sheet l : List ℕ) {n : ℕ} (accepted : AcceptedSheet n 
 pub returns-then-not-is_right : goal.returns-then-not-is_right
 unfolding line_count
 returns-then-not-is_right c =
-    let same = told _ _ _ _ c.requires.accepted_sheet c.loop-k.invariant _ c.line_at-a.ensures in
+    let same = told _ _ _ _ c.args.order.accepted c.loop-k.invariant _ c.line_at-a.ensures in
     if_found _ _ _ (omega arith) (ap not (sym same ∙ sym c.if-not-is_right.ensures)) c.loop-k.invariant.none
 
 pub bounds-states-a : goal.bounds-states-a
-bounds-states-a c = box_below _ _ _ _ c.requires.accepted_sheet c.loop-k.invariant _ c.line_at-a.ensures c.if-not-is_right.ensures
+bounds-states-a c = box_below _ _ _ _ c.args.order.accepted c.loop-k.invariant _ c.line_at-a.ensures c.if-not-is_right.ensures
 
 pub loop-k-preserved : goal.loop-k-preserved
-loop-k-preserved c = one_more _ _ _ _ c.requires.accepted_sheet c.loop-k.invariant _ c.line_at-a.ensures c.if-not-is_right.ensures
+loop-k-preserved c = one_more _ _ _ _ c.args.order.accepted c.loop-k.invariant _ c.line_at-a.ensures c.if-not-is_right.ensures
 
 pub returns : goal.returns
 unfolding line_count

@@ -3,4 +3,4 @@ use Rattle.why.proofs.Checking.{Checked}
 use Rattle.why.proofs.check.first_wrong.Given as goal
 
 abbrev pub invariant-loop-k : goal.invariant-loop-k
-invariant-loop-k l = Checked l.t.maker.now l.t.depot.now l.sheet l.lines l.states l.k
+invariant-loop-k l = Checked l.order.tables.maker.now l.order.tables.depot.now l.order.sheet.now l.lines l.states l.k
