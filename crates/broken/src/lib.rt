@@ -14,7 +14,8 @@ use records::kinds::Kind;
 use records::states::IN;
 use records::{Record, count, is_rule, record_at};
 
-// The truth tables. `z` is not looked at where the kind has none.
+// The truth tables, by the record's byte, which may be no kind: such a record is never broken. `z` is not looked at where the kind has
+// none.
 #[tactic(auto, unfolding(spec::specs::Kinds::meaning))]
 fn truth(kind: u8, x: bool, y: bool, z: bool) -> bool
     ensures { result ≡ meaning (kind_of kind) (at_places x y z) }

@@ -50,6 +50,7 @@ fn visit(
 {
     let mut tail = start;
     let mut e = index.first[b] as usize;
+    // a chain has no count to go by
     while e != 0 {
         tail = step_rule(index, e / 4, states, queue, tail)?;
         e = index.next[e] as usize;

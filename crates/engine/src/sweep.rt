@@ -42,7 +42,7 @@ fn turn(back: bool, all: usize, i: usize) -> usize
     if back { all - 1 - i } else { i }
 }
 
-// Steps through every record once, forward or back.
+// Steps through every record once, forward, or back where `back` says so.
 pub fn sweep(
     t: Tables,
     back: bool,

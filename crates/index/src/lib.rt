@@ -20,17 +20,14 @@ const RULE: usize = 4;
 fn byte_of(b: usize) -> u8
     ensures { b < 256 → result ≡ b }
 {
-    if b < 256 {
-        return b as u8;
-    }
-    0
+    u8::try_from(b).unwrap_or(0)
 }
 
 // The number of a box from its byte.
 pub fn box_of(byte: u8) -> usize
     ensures { (result ≡ byte) × (result < 256) }
 {
-    byte as usize
+    usize::from(byte)
 }
 
 // Writes q behind the first m packed rules.

@@ -17,12 +17,12 @@ fn table() -> [u8; 256]
     OUTCOMES
 }
 
-// Where the entry for a kind and three states stands.
+// Where the entry for a kind and three states stands: numbers all, as in the specification's index.
 fn index(kind: u8, a: u8, b: u8, c: u8) -> usize
     requires { Coded kind a b c }
     ensures { result ≡ index_of kind a b c }
 {
-    64 * (kind as usize - 1) + 16 * (a as usize) + 4 * (b as usize) + (c as usize)
+    64 * (usize::from(kind) - 1) + 16 * usize::from(a) + 4 * usize::from(b) + usize::from(c)
 }
 
 // The entry at index k.

@@ -46,6 +46,7 @@ impl Kind {
     }
 }
 
+// Of a byte, as `has_z` is: the records' promises speak of any.
 #[tactic(auto, unfolding(spec::specs::Records::no_kind))]
 pub fn is_kind(kind: u8) -> bool
     ensures { result ≡ not (no_kind (kind_of kind)) }

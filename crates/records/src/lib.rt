@@ -21,6 +21,7 @@ const NO_BOX: usize = 65535;
 // The eight bytes of a record: kind, byte 1, and the boxes x, y, z.
 #[derive(Clone, Copy, Debug, PartialEq, Eq)]
 pub struct Record {
+    // the table's byte and no `Kind`, since a record may be bad
     pub kind: u8,
     pub byte1: u8,
     pub x: usize,
@@ -62,7 +63,7 @@ pub fn place_of(maker: &[u8], number: usize) -> Where
 pub fn word(low: u8, high: u8) -> usize
     ensures { result ≡ low + 256 * high }
 {
-    u16::from_le_bytes([low, high]) as usize
+    usize::from(u16::from_le_bytes([low, high]))
 }
 
 #[tactic(auto, unfolding(spec::specs::Records::rec_from))]

@@ -29,7 +29,8 @@ struct Reached {
 }
 
 // What is left at hand after a turn: the first `size` bytes of the buffer. If `skipping`, they start inside a line whose reply is already
-// put. The replies end at `at`. If `waits`, there is nothing to do before more is read.
+// put. The replies end at `at`. If `waits`, there is nothing to do before more is read. Every value means something in either state, so
+// they are flags and no cases.
 #[derive(Clone, Copy, Debug, PartialEq, Eq)]
 pub struct Left {
     pub size: usize,
@@ -55,6 +56,7 @@ fn replies(input: &[u8], text: &mut [u8]) -> Reached
 {
     let mut from = 0;
     let mut at = 0;
+    // by the places of lines, of which no iterator tells where it stopped
     loop {
         let end = end_of(input, from, LINE_FEED);
         if end == input.len() || text.len() - at < REPLY {

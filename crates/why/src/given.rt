@@ -12,7 +12,7 @@ use records::kinds::{Kind, has_z};
 use records::states::{IN, OPEN, OUT};
 use records::{Record, is_rule};
 
-// What x gets from y and z, and y from x and z: the rules are alike for both.
+// What x gets from y and z, and y from x and z: the rules are alike for both. The kind is the record's byte, as `fire` takes it.
 #[tactic(auto, using(crate::proofs::Trees::side_given, std::proofs::lemmas::Bool::Decides::nat_tests))]
 fn given_side(kind: u8, other: u8, z: u8) -> u8
     requires { OnSheet 2 other z }
