@@ -4,26 +4,11 @@
 
 ghost use Rattle.std.specs.Io.{ReadsAtMost};
 
-use std::fmt;
+use failure::Failure;
 use std::fs::File;
 use std::io::{self, ErrorKind, Read};
 use std::process::ExitCode;
 use std::rt::Files;
-
-// What could not be read or written, and why.
-#[derive(Drop)]
-struct Failure {
-    what: &'static str,
-    error: io::Error,
-}
-
-impl fmt::Display for Failure {
-    fn fmt<W: fmt::Write>(&self, f: &mut fmt::Formatter<W>) -> fmt::Result {
-        let what = self.what;
-        let error = self.error;
-        write!(f, "{what}: {error}")
-    }
-}
 
 // A table of 1,025 records is one too many; a sheet of 257 boxes likewise. So more need not be read.
 const TABLE: usize = 8200;

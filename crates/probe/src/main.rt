@@ -5,24 +5,9 @@
 ghost use Rattle.std.specs.Prelude.{◌≤◌, length, IfOk, IfSome};
 ghost use Rattle.stream.specs.Input.{RoomForLines};
 
-use std::fmt;
-use std::io::{self, Read};
+use failure::Failure;
+use std::io::Read;
 use std::process::ExitCode;
-
-// What could not be read or written, and why.
-#[derive(Drop)]
-struct Failure {
-    what: &'static str,
-    error: io::Error,
-}
-
-impl fmt::Display for Failure {
-    fn fmt<W: fmt::Write>(&self, f: &mut fmt::Formatter<W>) -> fmt::Result {
-        let what = self.what;
-        let error = self.error;
-        write!(f, "{what}: {error}")
-    }
-}
 
 // What is at hand is the first `size` bytes of the input's buffer; `skipping` is what the last turn said of them.
 #[derive(Clone, Copy)]
