@@ -2,11 +2,12 @@
 #![tactic(auto, unfolding(spec::specs::Refusals::boxes_check, spec::specs::Refusals::maker_check, spec::specs::Refusals::depot_check, spec::specs::Refusals::count_check, spec::specs::Refusals::record_check, spec::specs::Refusals::sheet_check, spec::specs::Refusals::given_check, spec::specs::Refusals::out_check, spec::specs::Refusals::list_check))]
 
 ghost use Rattle.std.specs.Prelude.{◌≡◌, false, ℕ, ◌<◌, length, get_or, ltb, ◌∷◌, []};
+ghost use Rattle.lemmas.specs.Lowest.{lowest_if_any};
 ghost use Rattle.spec.specs.Records.{record_at, record_count, bad};
 ghost use Rattle.spec.specs.Refusals.{passed, judge, table_checks, sheet_check, given_check, out_check, list_check, sheet_checks, order_checks, next_checks};
 ghost use Rattle.spec.specs.Fits.{test_checks};
 ghost use Rattle.spec.proofs.Accepted.{WholeRecords};
-ghost use Rattle.accept.specs.Form.{form_says, lowest_if_any};
+ghost use Rattle.accept.specs.Form.{form_says};
 
 use records::{count, is_bad, record_at};
 use refusals::Refusal;

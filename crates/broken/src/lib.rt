@@ -46,7 +46,7 @@ fn is_broken(list: &[u8], q: Record) -> bool
 }
 
 // The lowest broken record.
-pub fn first_broken<'a>(maker: &'a [u8], depot: &'a [u8], list: &[u8]) -> Option<usize>
+pub fn first_broken(maker: &[u8], depot: &[u8], list: &[u8]) -> Option<usize>
     requires { WholeRecords maker.now depot.now }
     ensures { result ≡ if_below (first_broken maker.now depot.now list.now) (record_count maker.now depot.now) }
 {

@@ -18,7 +18,7 @@ pub enum Call {
     Next,
 }
 
-// In the order of their words.
+// In the order of their words, which stand in one string so that a word is looked for by the spaces between them.
 const CALLS: [Call; 5] = [Call::Fill, Call::Test, Call::Show, Call::First, Call::Next];
 
 impl Call {

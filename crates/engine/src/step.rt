@@ -26,7 +26,8 @@ fn settle(states: &mut [u8; 256], queue: &mut [u8; 256], tail: usize, b: usize, 
     tail + 1
 }
 
-// Fires every rule of one record, whose kind is the byte that `fire` takes. A z that is missing may be any box: its state is read, is of no matter, and is left as it is.
+// Fires every rule of one record, whose kind is the byte that `fire` takes. A z that is missing may be any box: its state is read, is
+// of no matter, and is left as it is.
 pub fn step(
     kind: u8,
     x: usize,

@@ -9,14 +9,14 @@ use Rattle.std.specs.Prelude.{Result}
 use Rattle.spec.specs.Refusals.{Said}
 use Rattle.refusals.specs.declared.Refusal.{Refusal}
 use Rattle.refusals.specs.Telling.{done_with, numbers_of}
-use Rattle.refusals.proofs.Back.{answer_unique}
+use Rattle.refusals.proofs.Back.{result_unique}
 use Rattle.refusals.proofs.Told.{OwnCodes, told_unique}
 use Rattle.fill.specs.Answer.{FillDoes}
 
 pub filled_unique : (maker depot sheet out : List ℕ) (r s : Result ℕ Refusal) (left last : List ℕ) →
     FillDoes maker depot sheet out r left → FillDoes maker depot sheet out s last → (r ≡ s) × (left ≡ last)
 filled_unique maker depot sheet out r s left last =
-    answer_unique (λ (k : ℕ). k) (λ (k : ℕ). k) (λ k. refl) r s
+    result_unique (λ (k : ℕ). k) (λ (k : ℕ). k) (λ k. refl) r s
 
 pub count_codes : OwnCodes done_with
 count_codes k e = omega arith

@@ -152,9 +152,8 @@ fn fire_or(x: u8, y: u8, z: u8) -> States
     }
 }
 
-// The kind is the table's byte here and below, since the promises (`Fired`, `Rests`) are for any.
 // The closure of the three states under one record of this kind alone. A z that the kind doesn't name comes back as it was,
-// and a number that is no kind has no rules.
+// and a number that is no kind has no rules. The kind is the table's byte, of which the promise speaks; so in what follows.
 pub fn fire(kind: u8, x: u8, y: u8, z: u8) -> States
     requires { OnSheet x y z }
     ensures { Fired kind x y z result }

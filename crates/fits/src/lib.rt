@@ -53,7 +53,8 @@ pub fn test<'a>(maker: &'a [u8], depot: &'a [u8], list: &[u8]) -> Result<Verdict
 // Test that names no record.
 #[tactic(auto, unfolding(spec::specs::Fits::test_judges, spec::specs::Fits::bytes_of))]
 fn show_accepted<'a>(t: Tables<'a>, list: &[u8]) -> &'a [u8]
-    ensures { Shows t.entry.maker t.entry.depot (part_for t.entry.maker.now (test_judges t.entry.maker.now t.entry.depot.now list.now)) result }
+    ensures { Shows t.entry.maker t.entry.depot
+        (part_for t.entry.maker.now (test_judges t.entry.maker.now t.entry.depot.now list.now)) result }
 {
     let Some(i) = first_broken(t.maker, t.depot, list) else {
         return &t.maker[0..0];

@@ -46,7 +46,7 @@ fn pack_rule(packed: &mut [u8; 4096], m: usize, q: Record)
 }
 
 // Writes the rules of both tables one after the other, and answers how many they are.
-fn pack(t: Tables, packed: &mut [u8; 4096]) -> usize
+pub fn pack(t: Tables, packed: &mut [u8; 4096]) -> usize
     requires { length packed.old ≡ 4096 }
     ensures { Packed packed.new result (rules_in t.entry.maker.now t.entry.depot.now) }
 {
@@ -89,7 +89,7 @@ fn link_rule(packed: &[u8; 4096], j: usize, first: &mut [u16; 256], next: &mut [
 }
 
 // The chains of m packed rules, from none.
-fn link(packed: &[u8; 4096], m: usize, first: &mut [u16; 256], next: &mut [u16; 4096])
+pub fn link(packed: &[u8; 4096], m: usize, first: &mut [u16; 256], next: &mut [u16; 4096])
     requires m_bound { m ≤ 1024 }
     requires good { Good 256 (packed_rules packed.now m) }
     requires linked { Linked packed.now 0 first.old next.old }
@@ -125,7 +125,7 @@ impl Index {
         }
     }
 
-    // The empty index becomes that of the tables, where it lies: an index that is handed back is copied.
+    // The empty index becomes that of the tables, where it lies: one that is handed back full would be copied, and zeros need no copy.
     pub fn fill(&mut self, t: Tables)
         requires packed_len { length self.old.packed ≡ 4096 }
         requires first { self.old.first ≡ replicate 256 0 }

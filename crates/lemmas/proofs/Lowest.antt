@@ -1,10 +1,11 @@
 -- What `lowest` finds.
 -- Assumes nothing.
-use mathlib.Core.Path.{◌≡◌, refl, ap}
+use mathlib.Core.Path.{◌≡◌, refl, ap, sym, ◌∙◌}
 use mathlib.Core.Bool.{Bool, true, false, cond}
-use Prim.Native.Nat.{ℕ, zero, suc, ◌≤◌, ◌<◌, suc-le-suc}
+use Prim.Native.Nat.{ℕ, zero, suc, ◌+◌, ◌≤◌, ◌<◌, zero-le, suc-le-suc}
 use native.Mathlib.Nat.{not-suc-le-zero, le_of_suc-le-suc}
 use native.Mathlib.Omega.{arith}
+use borrow.Author.Count.{below_none, below_more}
 use Rattle.std.proofs.Common.{Some, None}
 use Rattle.lemmas.specs.Lowest.{lowest, if_below}
 
@@ -70,3 +71,24 @@ lowest_found p (suc n) h = go (p zero) refl h (lowest_found (λ j. p (suc j)) n)
         (p (cond t zero (suc low)) ≡ true) × ((j : ℕ) → j < cond t zero (suc low) → p j ≡ false)
     go true e h rest = (e, λ j l. absurd (not-suc-le-zero l))
     go false e h rest = let found = rest (le_of_suc-le-suc h) in (found.0, below e found.1)
+
+-- a search that looks at 0, 1, 2, … has come to i: none below it passes. What each turn and each way out of its loop asks
+pub record Searched (p : ℕ → Bool) (n i : ℕ) : Type 0 where
+  pub within : i ≤ n
+  pub none : (j : ℕ) → j < i → p j ≡ false
+
+module _ {p : ℕ → Bool} {n : ℕ} where
+  pub searched_start : Searched p n 0
+  searched_start = record { within = zero-le; none = below_none _ }
+
+  module _ {i : ℕ} (s : Searched p n i) where
+    pub searched_next : i < n → p i ≡ false → Searched p n (i + 1)
+    searched_next l e = record { within = omega arith; none = below_more _ i s.none e }
+
+    pub searched_found : i < n → p i ≡ true → i ≡ lowest p n
+    searched_found l e = sym (lowest_at p n i l e s.none)
+
+    pub searched_all : n ≤ i → i ≡ lowest p n
+    searched_all h =
+        let e : i ≡ n = omega (arith, s.within) in
+        e ∙ sym (lowest_none p n (λ j l. s.none j (omega arith)))

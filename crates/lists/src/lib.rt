@@ -34,7 +34,8 @@ pub fn is_list(answer: Result<(), Refusal>) -> bool
 fn choose_accepted(order: Order, given: Option<&[u8]>, out: &mut [u8]) -> Result<(), Refusal>
     requires out_len { length out.old ≡ order.tables.n }
     requires given_len { IfSome given (λ list. length list.now ≡ order.tables.n) }
-    ensures { Chosen order.entry.tables.n order.entry.tables.maker.now order.entry.tables.depot.now order.entry.sheet.now given.entry out.old result out.new }
+    ensures { Chosen order.entry.tables.n order.entry.tables.maker.now order.entry.tables.depot.now order.entry.sheet.now
+        given.entry out.old result out.new }
 {
     let mut states = [OPEN; 256];
     load(order.sheet, &mut states);

@@ -38,7 +38,7 @@ pub enum Where {
 
 // How many records both tables hold together.
 #[tactic(auto, unfolding(spec::specs::Records::record_count))]
-pub fn count<'a>(maker: &'a [u8], depot: &'a [u8]) -> usize
+pub fn count(maker: &[u8], depot: &[u8]) -> usize
     ensures { result ≡ record_count maker.now depot.now }
 {
     maker.len() / SIZE + depot.len() / SIZE
@@ -80,7 +80,7 @@ fn record_from(t: &[u8], at: usize) -> Record
     }
 }
 
-pub fn record_at<'a>(maker: &'a [u8], depot: &'a [u8], number: usize) -> Record
+pub fn record_at(maker: &[u8], depot: &[u8], number: usize) -> Record
     requires whole_records { WholeRecords maker.now depot.now }
     requires number_bound { number < record_count maker.now depot.now }
     ensures { as_rec result ≡ record_at maker.now depot.now number }

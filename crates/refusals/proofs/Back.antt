@@ -53,6 +53,14 @@ refusal_back NoList = refl
 refusal_back LinesLength = refl
 refusal_back (WrongLine line) = refl
 
+-- two results that a promise allows are equal, where each answer can be had back from what it says
+pub answer_unique : {X A : Type 0} (says : X → Said A) (back : Said A → X) → ((x : X) → back (says x) ≡ x) →
+    {due : Said A} {bytes : List ℕ} (r s : X) {left last : List ℕ} → Does due bytes (says r) left → Does due bytes (says s) last →
+    (r ≡ s) × (left ≡ last)
+answer_unique says back had r s p q =
+    let same = does_unique p q in
+    (sym (had r) ∙ ap back same.0 ∙ had s, same.1)
+
 -- the answer that says it, where the operation's own kind of answer can be had back
 abbrev pub answer_for : {A B : Type 0} → (back : B → A) → Said B → Result A Refusal
 answer_for back (refused why) = Err (refusal_for why)
@@ -67,8 +75,6 @@ module _ {A B : Type 0} (own : A → B) (back : B → A) (had : (a : A) → back
   pub said_unique : (r s : Result A Refusal) → said own r ≡ said own s → r ≡ s
   said_unique r s e = sym (answer_back r) ∙ ap (answer_for back) e ∙ answer_back s
 
-  pub answer_unique : {due : Said B} {bytes : List ℕ} (r s : Result A Refusal) {left last : List ℕ} →
+  pub result_unique : {due : Said B} {bytes : List ℕ} (r s : Result A Refusal) {left last : List ℕ} →
       Does due bytes (said own r) left → Does due bytes (said own s) last → (r ≡ s) × (left ≡ last)
-  answer_unique r s p q =
-      let same = does_unique p q in
-      (said_unique r s same.0, same.1)
+  result_unique = answer_unique (said own) (answer_for back) answer_back

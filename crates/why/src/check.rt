@@ -1,7 +1,7 @@
 // The check of a why-list, line by line: the states are the sheet's and those of the lines above.
 ghost use Rattle.std.specs.Prelude.{◌≡◌, not, ◌%◌, length};
 ghost use Rattle.spec.proofs.Accepted.{AcceptedSheet};
-ghost use Rattle.accept.specs.Form.{lowest_if_any};
+ghost use Rattle.lemmas.specs.Lowest.{lowest_if_any};
 ghost use Rattle.engine.specs.Moves.{Cells};
 ghost use Rattle.whylists.specs.Lines.{line_count, right};
 ghost use Rattle.why.specs.Read.{as_line, right_on};
@@ -30,7 +30,8 @@ fn is_right(t: Tables, states: &[u8; 256], a: Reason) -> bool
 // The first wrong line.
 pub fn first_wrong(order: Order, lines: &[u8]) -> Option<usize>
     requires { length lines.now % 8 ≡ 0 }
-    ensures { result ≡ lowest_if_any (λ k. not (right order.entry.tables.maker.now order.entry.tables.depot.now order.entry.sheet.now lines.now k))
+    ensures { result ≡ lowest_if_any
+        (λ k. not (right order.entry.tables.maker.now order.entry.tables.depot.now order.entry.sheet.now lines.now k))
         (line_count lines.now) }
 {
     let mut states = [OPEN; 256];

@@ -26,7 +26,8 @@ use tables::{Order, Tables};
 // What the checker has left to say once tables and sheet have passed.
 #[tactic(auto, unfolding(whylists::specs::Says::why_check_judges, whylists::specs::Says::length_check, whylists::specs::Says::lines_check))]
 fn vet_accepted(order: Order, lines: &[u8]) -> Result<(), Refusal>
-    ensures { vetted_says result ≡ why_check_judges order.entry.tables.maker.now order.entry.tables.depot.now order.entry.sheet.now lines.now }
+    ensures { vetted_says result
+        ≡ why_check_judges order.entry.tables.maker.now order.entry.tables.depot.now order.entry.sheet.now lines.now }
 {
     if lines.len() % 8 != 0 {
         return Err(Refusal::LinesLength);
