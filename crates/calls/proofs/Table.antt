@@ -5,14 +5,14 @@ use mathlib.Core.Bool.{Bool, true, false, cond}
 use mathlib.Core.List.{List, [], ◌∷◌, map}
 use Prim.Native.Nat.{ℕ, suc, ◌≤◌, ◌<◌}
 use native.Mathlib.Omega.{arith}
-use borrow.Author.Tests.{ltb-true, ltb-false}
 use Rattle.std.proofs.Common.{Some, None}
-use lib.Dec.{ltb, eqb, eqb-zero-suc, eqb-suc-suc}
+use lib.Dec.{eqb, eqb-zero-suc, eqb-suc-suc}
 use lib.ListN.{length, get_or}
 use Rattle.lemmas.proofs.Table.{table_agree}
 use Rattle.lemmas.specs.Same.{same_list}
 use Rattle.text.specs.Spelling.{ascii}
 use Rattle.fields.specs.Fields.{is}
+use Rattle.lemmas.proofs.Lowest.{some_below, none_below}
 use Rattle.fields.specs.Words.{place_among, found_among}
 use Rattle.calls.specs.Words.{error_for}
 use Rattle.calls.specs.Rows.{Row, call_rows, no_row, row_at, row_of}
@@ -54,19 +54,14 @@ answer_row w fs = answer_place call_rows no_row w fs (row_of w) refl
 -- a word that is found has its row, and one that is not has none
 pub word_found : (w : List ℕ) {k : ℕ} → Some k ≡ found_among w (map (λ r. ascii r.word) call_rows) → (k < length call_rows) × (k ≡ row_of w)
 unfolding row_of
-word_found w {k} e = at (place_among w (map (λ r. ascii r.word) call_rows)) _ refl e
-  where
-    at : (p : ℕ) (b : Bool) → ltb p 5 ≡ b → Some k ≡ cond b (Some p) None → (k < 5) × (k ≡ p)
-    at p true below e = let same : k ≡ p = cc in (omega (arith, ltb-true p 5 below), same)
-    at p false below e = cc
+word_found w e =
+    let (same, below) = some_below (place_among w (map (λ r. ascii r.word) call_rows)) 5 e in (omega arith, same)
 
 pub word_missing : (w : List ℕ) → None ≡ found_among w (map (λ r. ascii r.word) call_rows) → length call_rows ≡ row_of w
 unfolding row_of
-word_missing w e = at (place_among w (map (λ r. ascii r.word) call_rows)) (place_most w (map (λ r. ascii r.word) call_rows)) _ refl e
-  where
-    at : (p : ℕ) → p ≤ 5 → (b : Bool) → ltb p 5 ≡ b → None ≡ cond b (Some p) None → 5 ≡ p
-    at p most true below e = cc
-    at p most false below e = omega (arith, ltb-false p 5 below)
+word_missing w e =
+    let rows = map (λ r. ascii r.word) call_rows in
+    omega (arith, place_most w rows, none_below (place_among w rows) 5 e)
 
 -- the calls in the order of their rows
 pub call_numbered : (k : ℕ) → k < 5 → row_number (get_or (Fill ∷ Test ∷ Show ∷ First ∷ Next ∷ []) k Fill) ≡ k
