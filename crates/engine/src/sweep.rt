@@ -42,7 +42,9 @@ fn turn(back: bool, all: usize, i: usize) -> usize
     if back { all - 1 - i } else { i }
 }
 
-// Steps through every record once, forward, or back where `back` says so.
+// Steps through every record once, forward, or back where `back` says so. Part of its callers, so that the first sweep of a fill, which
+// is all that most sheets need, doesn't ask at each record which way it goes.
+#[inline(always)]
 pub fn sweep(
     t: Tables,
     back: bool,

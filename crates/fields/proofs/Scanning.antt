@@ -1,19 +1,22 @@
--- The pieces between marks, as the library cuts a slice, finds a mark and goes over the pieces.
+-- The pieces between marks, as the library cuts a slice, finds a mark and goes over the pieces, and as a loop counts them.
 -- Assumes nothing.
 use mathlib.Core.Path.{◌≡◌, refl, sym, ap, subst, ◌∙◌}
-use mathlib.Core.Bool.{Bool, true, false, cond, ◌&&◌}
+use mathlib.Core.Bool.{Bool, true, false, not, cond, ◌&&◌}
 use mathlib.Core.List.{List, [], ◌∷◌, ◌++◌}
-use Prim.Native.Nat.{ℕ, suc, ◌+◌, ◌-◌, ◌≤◌}
+use Prim.Native.Nat.{ℕ, suc, ◌+◌, ◌-◌, ◌≤◌, ◌<◌}
+use mir.Val.{bool_byte}
 use native.Mathlib.Omega.{arith}
+use native.Mathlib.Numerals.{add-one}
 use lib.Dec.{eqb}
-use lib.ListN.{length, get_or, take, drop, length-drop}
-use lib.Seq.{take_all}
-use Rattle.std.specs.List.{slice_split, onto_first, position_or_len, list_all, All, IsFirstMatchOrLen}
+use lib.ListN.{length, get_or, take, drop, length-drop, drop_of_length-le}
+use lib.Seq.{take_all, drop-cons, length-take-le}
+use Rattle.std.specs.List.{slice_split, onto_first, prefix_len, position_or_len, list_all, All, IsFirstMatchOrLen}
 use Rattle.std.specs.Bool.{MatchBool}
 use Rattle.std.specs.declared.slice.Split.{Split}
 use Rattle.std.specs.Slice.Iter.{split_rest, split_done}
 use Rattle.std.proofs.lemmas.Grind.{common_steps}
 use Rattle.std.proofs.lemmas.List.Splits.{slice_split_none, slice_split_at}
+use Rattle.std.proofs.lemmas.List.Sums.{prefix_len-le-length}
 use Rattle.std.proofs.lemmas.List.Recursion.{is_position_or_len}
 use Rattle.lemmas.specs.Lists.{all}
 use Rattle.fields.specs.Cuts.{in_front, cut_at, until}
@@ -35,6 +38,38 @@ one_more n = omega arith
 pub until_position : (mark : ℕ) (l : List ℕ) → until mark l ≡ position_or_len (λ c. eqb c mark) l
 until_position mark =
     is_position_or_len (until mark) (λ c. eqb c mark) refl (λ c l. ap (cond (eqb c mark) 0) (one_more (until mark l)))
+
+pub until_taken : (mark : ℕ) (l : List ℕ) → length (take (prefix_len (λ c. not (eqb c mark)) l) l) ≡ until mark l
+until_taken mark l =
+    length-take-le _ l (prefix_len-le-length (λ c. not (eqb c mark)) l) ∙ sym (until_position mark l)
+
+-- there is always a piece
+pieces_some : (mark : ℕ) (l : List ℕ) → 0 < length (cut_at mark l)
+pieces_some mark [] = omega arith
+pieces_some mark (c ∷ l) = front_some (eqb c mark) (cut_at mark l)
+  where
+    front_some : (b : Bool) (ps : List (List ℕ)) → 0 < length (in_front b c ps)
+    front_some true ps = omega arith
+    front_some false [] = omega arith
+    front_some false (p ∷ ps) = omega arith
+
+-- from i on: the character at i, and those from i + 1 on
+next_character : (l : List ℕ) (i : ℕ) → i < length l → drop i l ≡ get_or l i 0 ∷ drop (i + 1) l
+next_character l i h = rw (add-one, drop-cons l i 0)
+
+-- a scan over characters, one by one: what is left of the pieces at each place
+module _ (mark : ℕ) (l : List ℕ) (i : ℕ) where
+  pub pieces_next : i < length l →
+      length (cut_at mark (drop i l)) ≡ bool_byte (eqb (get_or l i 0) mark) + length (cut_at mark (drop (i + 1) l))
+  pieces_next h = rw (next_character l i h) (at (eqb (get_or l i 0) mark) (cut_at mark (drop (i + 1) l)) (pieces_some mark (drop (i + 1) l)))
+    where
+      at : (b : Bool) (ps : List (List ℕ)) → 0 < length ps → length (in_front b (get_or l i 0) ps) ≡ bool_byte b + length ps
+      at true ps some = omega arith
+      at false [] some = absurd (omega arith)
+      at false (p ∷ ps) some = omega arith
+
+  pub pieces_end : length l ≤ i → length (cut_at mark (drop i l)) ≡ 1
+  pieces_end h = rw (drop_of_length-le l h)
 
 -- the rest of a slice from a place on, as slicing gives it
 pub rest_from : (l : List ℕ) (from : ℕ) → take (length l - from) (drop from l) ≡ drop from l

@@ -34,27 +34,30 @@ fn trial(
     ensures answer_to { Finds (Asks (rules_of index.now) n (set sheet.states from state) given.entry) n result }
     ensures queue_len_2 { length queue.new ≡ 256 }
 {
-    let mut own = sheet.settled(from, state);
-    let Ok(()) = go_on(index, from, &mut own.states, queue) else {
+    let mut own = sheet.settled(from, state).states;
+    let Ok(()) = go_on(index, from, &mut own, queue) else {
         return None;
     };
-    let lowest = lowest_open(&own.states, from, n);
-    let standing = standing_to(&own.states, given, from, lowest.unwrap_or(n));
+    let lowest = lowest_open(&own, from, n);
+    let standing = standing_to(&own, given, from, lowest.unwrap_or(n));
     if standing == Ordering::Less {
         return None;
     }
     let bound = still_given(given, standing);
     let Some(b) = lowest else {
-        // the sheet is the one kit, and the given list is not after itself
-        return bound.is_none().then_some(own);
+        // the sheet is the one kit, and the given list is not after itself; `then_some` would copy the sheet once more
+        if bound.is_some() {
+            return None;
+        }
+        return Some(Sheet { states: own });
     };
     // a list with b out would stand before the given one
     if !is_past_out(bound, b) {
-        if let Some(kit) = trial(index, n, own, b, OUT, bound, queue) {
+        if let Some(kit) = trial(index, n, Sheet { states: own }, b, OUT, bound, queue) {
             return Some(kit);
         }
     }
-    trial(index, n, own, b, IN, bound, queue)
+    trial(index, n, Sheet { states: own }, b, IN, bound, queue)
 }
 
 // The first kit of the sheet, and where a list is given, the first strictly after it.

@@ -1,6 +1,6 @@
 -- `search::trial` meets its contract: a trial's answer comes from its branches', and each has fewer open boxes.
 -- Assumes nothing.
-use Rattle.std.proofs.Common.{◌≡◌, ℕ, ◌≤◌, ◌<◌, unwrap_or, refl, set, arith, rules}
+use Rattle.std.proofs.Common.{◌≡◌, ◌∙◌, true, false, ℕ, ◌≤◌, ◌<◌, unwrap_or, refl, sym, set, arith, rules}
 use Rattle.spec.specs.Fill.{open_count}
 use Rattle.engine.specs.Queue.{rules_of}
 use Rattle.search.specs.Ready.{TrialReady}
@@ -16,7 +16,7 @@ looked : (t : ℕ) (c : After-standing_to-standing t) (b : ℕ) → unwrap_or c.
     c.go_on.new.states b c.standing_to-standing.result
 looked t c b e =
     record {
-      rest = rw c.settled-own.ensures at c.in-Ok.ensures.rested;
+      rest = rw c.settled.ensures at c.in-Ok.ensures.rested;
       low = rw e at c.lowest_open-lowest.ensures.lowest;
       stands = rw (c.unwrap_or.ensures, e) at c.standing_to-standing.ensures;
     }
@@ -27,7 +27,7 @@ looked_open : (t : ℕ) (c : In-Some t) →
     c.go_on.new.states c.in-Some.b c.standing_to-standing.result
 looked_open t c =
     record {
-      rest = rw c.settled-own.ensures at c.in-Ok.ensures.rested;
+      rest = rw c.settled.ensures at c.in-Ok.ensures.rested;
       low = c.in-Some.ensures.lowest;
       stands = rw (c.unwrap_or.ensures, c.in-Some.is) at c.standing_to-standing.ensures;
     }
@@ -49,22 +49,22 @@ handed t c v small =
 
 pub returns-in_default-clause-answer_to : goal.returns-in_default-clause-answer_to
 returns-in_default-clause-answer_to t c =
-    trial_clash c.requires.trial_ready.trial (rw c.settled-own.ensures at c.in_default.ensures.rested)
+    trial_clash c.requires.trial_ready.trial (rw c.settled.ensures at c.in_default.ensures.rested)
 
 pub lowest_open-lowest-requires-clause-settled_below : goal.lowest_open-lowest-requires-clause-settled_below
 lowest_open-lowest-requires-clause-settled_below t c =
-    let rested = rw c.settled-own.ensures at c.in-Ok.ensures.rested in
+    let rested = rw c.settled.ensures at c.in-Ok.ensures.rested in
     filled_front c.requires.trial_ready.trial rested.0
 
 pub standing_to-standing-requires-clause-from_le_b : goal.standing_to-standing-requires-clause-from_le_b
 standing_to-standing-requires-clause-from_le_b t c =
-    let rested = rw c.settled-own.ensures at c.in-Ok.ensures.rested in
+    let rested = rw c.settled.ensures at c.in-Ok.ensures.rested in
     let ready = c.requires.trial_ready.trial in
     rw c.unwrap_or.ensures (low_after c.lowest_open-lowest.ensures.lowest (filled_front ready rested.0) ready.within)
 
 pub standing_to-standing-requires-clause-same_below : goal.standing_to-standing-requires-clause-same_below
 standing_to-standing-requires-clause-same_below t c =
-    let rested = rw c.settled-own.ensures at c.in-Ok.ensures.rested in
+    let rested = rw c.settled.ensures at c.in-Ok.ensures.rested in
     filled_same c.requires.trial_ready.trial rested.0
 
 pub returns-then-eq-clause-answer_to : goal.returns-then-eq-clause-answer_to
@@ -72,12 +72,17 @@ returns-then-eq-clause-answer_to t c =
     let here = (goal.at.returns-then-eq-clause-answer_to t c).After-standing_to-standing in
     trial_before c.requires.trial_ready.trial (looked t here _ refl) (search rules)
 
+pub returns-then-is_some-clause-answer_to : goal.returns-then-is_some-clause-answer_to
+returns-then-is_some-clause-answer_to t c =
+    let here = (goal.at.returns-then-is_some-clause-answer_to t c).After-standing_to-standing in
+    trial_full c.requires.trial_ready.trial (looked t here c.args.n (rw c.in_default-lowest.is)) c.still_given-bound.ensures (search rules)
+    refl false (sym c.is_some.ensures ∙ c.if-is_some.true)
+
 pub returns-in_default-lowest-clause-answer_to : goal.returns-in_default-lowest-clause-answer_to
 returns-in_default-lowest-clause-answer_to t c =
     let here = (goal.at.returns-in_default-lowest-clause-answer_to t c).After-standing_to-standing in
-    rw c.then_some.ensures
-    (trial_full c.requires.trial_ready.trial (looked t here c.args.n (rw c.in_default-lowest.is)) c.still_given-bound.ensures (search rules)
-    refl c.is_none.result c.is_none.ensures)
+    trial_full c.requires.trial_ready.trial (looked t here c.args.n (rw c.in_default-lowest.is)) c.still_given-bound.ensures (search rules)
+    refl true (sym c.is_some.ensures ∙ c.if-is_some.false)
 
 pub trial-requires : goal.trial-requires
 trial-requires t c =
