@@ -7,7 +7,7 @@ use Prim.Native.Nat.{ℕ, suc, ◌≤◌, ◌<◌}
 use native.Mathlib.Omega.{arith}
 use Rattle.std.proofs.Common.{Some, None}
 use lib.Dec.{eqb, eqb-zero-suc, eqb-suc-suc}
-use lib.ListN.{length, get_or}
+use lib.ListN.{length, get_or, get_or-eq_default}
 use Rattle.lemmas.proofs.Table.{table_agree}
 use Rattle.lemmas.specs.Same.{same_list}
 use Rattle.text.specs.Spelling.{ascii}
@@ -50,6 +50,11 @@ pub answer_row : (w : List ℕ) (fs : List (List ℕ)) →
     answer_by call_rows w fs ≡ cond (eqb (row_of w) (length call_rows)) (error_for (ascii "word")) (answer_in (row_at (row_of w)) fs)
 unfolding row_of row_at
 answer_row w fs = answer_place call_rows no_row w fs (row_of w) refl
+
+-- behind the last row nothing is answered
+pub row_past : (k : ℕ) → length call_rows ≤ k → (part : ℕ → List ℕ) → (row_at k).answer part ≡ []
+unfolding row_at
+row_past k h part = rw (get_or-eq_default call_rows no_row h)
 
 -- a word that is found has its row, and one that is not has none
 pub word_found : (w : List ℕ) {k : ℕ} → Some k ≡ found_among w (map (λ r. ascii r.word) call_rows) → (k < length call_rows) × (k ≡ row_of w)

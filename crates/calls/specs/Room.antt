@@ -25,7 +25,10 @@ row_found None = length call_rows
 abbrev pub Answered : (bytes ends : List ℕ) (answer : (ℕ → List ℕ) → List ℕ) (old : List ℕ) (at : ℕ) (new : List ℕ) (next : ℕ) → Type 0
 Answered bytes ends answer old at new next = PutWithin (100 + 2 * get_or ends 8 0) old at (answer (part_in bytes ends)) new next
 
--- the answer of a call to the fields of a line is put
+-- the answer of a row to the fields of a line is put, and that of a call
+abbrev pub RowAnswered : (row : ℕ) (line : List ℕ) (from : ℕ) (old : List ℕ) (at : ℕ) (new : List ℕ) (next : ℕ) → Type 0
+RowAnswered row line from old at new next =
+    PutWithin (100 + length line) old at ((row_at row).answer (part (fields_of (drop from line)))) new next
+
 abbrev pub CallAnswered : Call → (line : List ℕ) (from : ℕ) (old : List ℕ) (at : ℕ) (new : List ℕ) (next : ℕ) → Type 0
-CallAnswered call line from old at new next =
-    PutWithin (100 + length line) old at ((row_at (row_number call)).answer (part (fields_of (drop from line)))) new next
+CallAnswered call line from old at new next = RowAnswered (row_number call) line from old at new next

@@ -33,7 +33,7 @@ fn answer(line: &[u8], text: &mut [u8], at: usize) -> usize
     if !are_fields(line, from) {
         return put_error(text, at, b"digits");
     }
-    answer_fields(call, line, from, text, at)
+    answer_fields(call.row(), line, from, text, at)
 }
 
 // Puts what is written for a line at `at`: nothing, or its answer and a line feed.

@@ -2,12 +2,14 @@
 ghost use Rattle.std.specs.Prelude.{◌≡◌, ◌+◌, ◌*◌, ◌≤◌, length, get_or};
 ghost use Rattle.fields.specs.Cuts.{longest};
 ghost use Rattle.fields.specs.Ends.{RightFields};
-ghost use Rattle.calls.specs.Room.{row_number, row_found, Answered, CallAnswered};
+ghost use Rattle.calls.specs.Room.{row_number, row_found, Answered, RowAnswered, CallAnswered};
 ghost use Rattle.calls.specs.Rows.{row_at, row_of};
 
 use crate::operations::{answer_fill, answer_first, answer_next, answer_show, answer_test};
 use fields::parts::{Parts, take_parts};
 use fields::word::place_among;
+
+pub const ROWS: usize = 5;
 
 #[derive(Clone, Copy, Debug, PartialEq, Eq)]
 pub enum Call {
@@ -19,7 +21,7 @@ pub enum Call {
 }
 
 // In the order of their words, which stand in one string so that a word is looked for by the spaces between them.
-const CALLS: [Call; 5] = [Call::Fill, Call::Test, Call::Show, Call::First, Call::Next];
+const CALLS: [Call; ROWS] = [Call::Fill, Call::Test, Call::Show, Call::First, Call::Next];
 
 impl Call {
     pub fn of(word: &[u8]) -> Option<Call>
@@ -27,6 +29,19 @@ impl Call {
     {
         let k = place_among(word, b"fill test show first next")?;
         Some(CALLS[k])
+    }
+
+    // The number of its row in the table.
+    pub fn row(self) -> usize
+        ensures { result ≡ row_number self }
+    {
+        match self {
+            Call::Fill => 0,
+            Call::Test => 1,
+            Call::Show => 2,
+            Call::First => 3,
+            Call::Next => 4,
+        }
     }
 
     // How many fields follow the word.
@@ -63,6 +78,18 @@ impl Call {
             Call::Next => answer_next(parts, out, text, at),
         }
     }
+
+    // Puts the answer to the fields. The rooms of nearly all lines are small, and take little time to make.
+    pub fn answer_fields(self, line: &[u8], from: usize, text: &mut [u8], at: usize) -> usize
+        requires right_fields { RightFields line.now from }
+        requires line_len_bound { (length line.now ≤ longest) × (at + 100 + length line.now ≤ length text.old) }
+        ensures { CallAnswered self line.now from text.old at text.new result }
+    {
+        if line.len() <= 2000 {
+            return answer_with::<1000>(self, line, from, text, at);
+        }
+        answer_with::<100000>(self, line, from, text, at)
+    }
 }
 
 // Puts the answer to the fields. There is room for N bytes of them, two characters a byte, and for as many in each lent buffer. The rooms
@@ -91,14 +118,14 @@ fn answer_with<const N: usize>(
     call.answer(parts, &mut out, &mut more, text, at)
 }
 
-// Puts the answer to the fields. The rooms of nearly all lines are small, and take little time to make.
-pub fn answer_fields(call: Call, line: &[u8], from: usize, text: &mut [u8], at: usize) -> usize
+// Puts the answer of a row to the fields. Behind the last row there is none.
+pub fn answer_fields(row: usize, line: &[u8], from: usize, text: &mut [u8], at: usize) -> usize
     requires right_fields { RightFields line.now from }
     requires line_len_bound { (length line.now ≤ longest) × (at + 100 + length line.now ≤ length text.old) }
-    ensures { CallAnswered call line.now from text.old at text.new result }
+    ensures { RowAnswered row line.now from text.old at text.new result }
 {
-    if line.len() <= 2000 {
-        return answer_with::<1000>(call, line, from, text, at);
-    }
-    answer_with::<100000>(call, line, from, text, at)
+    let Some(call) = CALLS.get(row) else {
+        return at;
+    };
+    call.answer_fields(line, from, text, at)
 }

@@ -1,16 +1,16 @@
 // What an operation says, in words, put into a lent buffer.
-ghost use Rattle.std.specs.Prelude.{◌+◌, ◌*◌, ◌≤◌, length};
+ghost use Rattle.std.specs.Prelude.{◌++◌, ◌+◌, ◌*◌, ◌≤◌, length};
 ghost use Rattle.text.specs.Putting.{Put, PutWithin};
-ghost use Rattle.text.specs.Spelling.{field};
-ghost use Rattle.refusals.specs.Telling.{refusal_of, refused_words, refusal_room};
+ghost use Rattle.text.specs.Spelling.{decimal, field};
 ghost use Rattle.fits.specs.Answer.{tested_says};
 ghost use Rattle.fill.specs.Answer.{filled_says};
 ghost use Rattle.lists.specs.Answer.{listed_says};
-ghost use Rattle.calls.specs.Words.{words_of, error_for, spaced};
+ghost use Rattle.calls.specs.Words.{words_of, numbers_words, error_for, spaced};
 ghost use Rattle.calls.specs.Rows.{verdict_words, handed_words};
 
 use desk::{Refusal, Verdict};
 use fields::field::SPACE;
+use refusals::{Numbers, REFUSED, put_refused};
 use text::{put_byte, put_bytes, put_field, put_hex};
 
 #[tactic(auto, using(text::proofs::Puts::put_then))]
@@ -32,21 +32,33 @@ pub fn put_buffer(text: &mut [u8], at: usize, bytes: &[u8]) -> usize
     put_hex(text, next, bytes)
 }
 
-fn put_refused(text: &mut [u8], at: usize, why: Refusal) -> usize
-    requires { at + refusal_room ≤ length text.old }
-    ensures { PutWithin refusal_room text.old at (refused_words (refusal_of why)) text.new result }
+// A refusal, or else the word.
+pub fn put_done(text: &mut [u8], at: usize, word: &[u8], said: Numbers) -> usize
+    requires { (length word.now ≤ 20) × (at + 80 ≤ length text.old) }
+    ensures { PutWithin 80 text.old at (numbers_words said word.now) text.new result }
 {
-    refusals::put_refused(text, at, why.into())
+    if said.code == REFUSED {
+        return put_refused(text, at, said);
+    }
+    put_bytes(text, at, word)
+}
+
+// A refusal, or else the word and the count that it ends with.
+pub fn put_counted(text: &mut [u8], at: usize, word: &[u8], said: Numbers) -> usize
+    requires { (length word.now ≤ 20) × (at + 80 ≤ length text.old) }
+    ensures { PutWithin 80 text.old at (numbers_words said (word.now ++ decimal said.first)) text.new result }
+{
+    if said.code == REFUSED {
+        return put_refused(text, at, said);
+    }
+    put_field(text, at, word, said.first as usize)
 }
 
 pub fn put_filled(text: &mut [u8], at: usize, answer: Result<usize, Refusal>) -> usize
     requires { at + 80 ≤ length text.old }
     ensures { PutWithin 80 text.old at (words_of (field "filled ") (filled_says answer)) text.new result }
 {
-    match answer {
-        Ok(count) => put_field(text, at, b"filled ", count),
-        Err(why) => put_refused(text, at, why),
-    }
+    put_counted(text, at, b"filled ", fill::numbers(answer))
 }
 
 pub fn put_tested(text: &mut [u8], at: usize, answer: Result<Verdict, Refusal>) -> usize
@@ -54,9 +66,8 @@ pub fn put_tested(text: &mut [u8], at: usize, answer: Result<Verdict, Refusal>) 
     ensures { PutWithin 80 text.old at (words_of verdict_words (tested_says answer)) text.new result }
 {
     match answer {
-        Ok(Verdict::Fits) => put_bytes(text, at, b"fits"),
         Ok(Verdict::Broken(number)) => put_field(text, at, b"broken ", number),
-        Err(why) => put_refused(text, at, why),
+        Ok(Verdict::Fits) | Err(_) => put_done(text, at, b"fits", fits::numbers(answer)),
     }
 }
 
@@ -64,8 +75,5 @@ pub fn put_handed(text: &mut [u8], at: usize, answer: Result<(), Refusal>) -> us
     requires { at + 80 ≤ length text.old }
     ensures { PutWithin 80 text.old at (words_of handed_words (listed_says answer)) text.new result }
 {
-    match answer {
-        Ok(()) => put_bytes(text, at, b"list"),
-        Err(why) => put_refused(text, at, why),
-    }
+    put_done(text, at, b"list", lists::numbers(answer))
 }

@@ -2,6 +2,9 @@
 #![tactic(auto, using(crate::proofs::Says::filled_size))]
 
 ghost use Rattle.std.specs.Prelude.{◌≡◌, ◌≤◌, length};
+ghost use Rattle.lemmas.specs.Lowest.{if_below};
+ghost use Rattle.spec.specs.Records.{record_count};
+ghost use Rattle.spec.specs.Fits.{first_broken};
 ghost use Rattle.spec.proofs.Accepted.{AcceptedSheet};
 ghost use Rattle.refusals.specs.Telling.{done_with, numbers_of, in_order};
 ghost use Rattle.fill.specs.Answer.{filled_says, FillsTo, FillDoes, FillDoesInForm};
@@ -23,6 +26,14 @@ pub fn numbers(answer: Result<usize, Refusal>) -> Numbers
     }
 }
 
+// The first record that a filled sheet breaks, where it breaks one.
+fn broken_of(t: Tables, filled: &[u8]) -> Option<usize>
+    ensures { result ≡ if_below (first_broken t.entry.maker.now t.entry.depot.now filled.now)
+        (record_count t.entry.maker.now t.entry.depot.now) }
+{
+    first_broken(t.maker, t.depot, filled)
+}
+
 // A filled sheet with no open box is tested once more before it is written.
 fn hand_out(order: Order, filled: &[u8], out: &mut [u8]) -> Result<usize, Refusal>
     requires fills_to { FillsTo order.tables.maker.now order.tables.depot.now order.sheet.now filled.now }
@@ -30,7 +41,7 @@ fn hand_out(order: Order, filled: &[u8], out: &mut [u8]) -> Result<usize, Refusa
     ensures { FillDoesInForm order.entry.tables.maker.now order.entry.tables.depot.now order.entry.sheet.now out.old result out.new }
 {
     if count_open(filled) == 0 {
-        if let Some(i) = first_broken(order.tables.maker, order.tables.depot, filled) {
+        if let Some(i) = broken_of(order.tables, filled) {
             return Err(Refusal::Broken(i));
         }
     }

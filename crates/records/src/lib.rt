@@ -10,7 +10,7 @@ ghost use Rattle.spec.specs.Fits.{record_part};
 ghost use Rattle.spec.proofs.Accepted.{WholeRecords};
 ghost use Rattle.records.specs.Record.{as_rec, part_of};
 
-use kinds::Kind;
+use kinds::{has_z, is_kind};
 
 // The bytes of a record.
 const SIZE: usize = 8;
@@ -104,13 +104,10 @@ pub fn is_rule(q: Record) -> bool
 pub fn is_bad(n: usize, q: Record) -> bool
     ensures { result ≡ bad n (as_rec q) }
 {
-    let Ok(kind) = Kind::try_from(q.kind) else {
-        return true;
-    };
-    if q.byte1 != 0 || n <= q.x || n <= q.y || q.x == q.y {
+    if !is_kind(q.kind) || q.byte1 != 0 || n <= q.x || n <= q.y || q.x == q.y {
         return true;
     }
-    if kind.has_z() {
+    if has_z(q.kind) {
         n <= q.z || q.x == q.z || q.y == q.z
     } else {
         q.z != NO_BOX

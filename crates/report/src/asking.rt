@@ -4,6 +4,7 @@ ghost use Rattle.spec.specs.Kits.{kits, kits_after};
 ghost use Rattle.kits.specs.Kit.{IsFull};
 ghost use Rattle.report.specs.Asking.{Listable, AtHead};
 
+use lists::is_list;
 use sheet::store;
 
 // Writes the first kit, and answers whether there is one.
@@ -11,7 +12,7 @@ pub fn first_kit<'a>(maker: &'a [u8], depot: &'a [u8], sheet: &[u8], kit: &mut [
     requires { Listable maker.now depot.now sheet.now kit.old }
     ensures { AtHead (kits maker.now depot.now sheet.now) result kit.new }
 {
-    desk::first(maker, depot, sheet, kit).is_ok()
+    is_list(desk::first(maker, depot, sheet, kit))
 }
 
 // Writes the kit after this one, and answers whether there is one.
@@ -28,5 +29,5 @@ pub fn next_kit<'a>(
     ensures { AtHead (kits_after maker.now depot.now sheet.now kit.old) result kit.new }
 {
     store(&kit[..], given);
-    desk::next(maker, depot, sheet, &given[..], kit).is_ok()
+    is_list(desk::next(maker, depot, sheet, &given[..], kit))
 }

@@ -10,7 +10,7 @@ use lib.Dec.{ltb}
 use lib.ListN.{length}
 use Rattle.spec.specs.Records.{record_count}
 use Rattle.spec.specs.Refusals.{answered}
-use Rattle.spec.specs.Fits.{fits, broken, first_broken, test_checks, test_judges, test_says, record_part, part_for, shows_part}
+use Rattle.spec.specs.Fits.{fits, broken, first_broken, test_checks, test_judges, test_says, Part, record_part, part_for, shows_part}
 use Rattle.spec.proofs.Judge.{judge_reached}
 use Rattle.spec.proofs.Accepted.{Accepted, test_accepted}
 
@@ -41,6 +41,16 @@ module _ (maker : List ℕ) (number : ℕ) where
   pub part_depot : length maker ≤ 8 * number → record_part maker number ≡ record { depots = true; start = 8 * number - length maker; size = 8 }
   unfolding record_part
   part_depot h = rw (le-ltb _ _ h)
+
+  pub part_start : (record_part maker number).start ≤ 8 * number
+  unfolding record_part
+  part_start = go (ltb (8 * number) (length maker))
+    where
+      go : (t : Bool) →
+          (cond {A = Part} t (record { depots = false; start = 8 * number; size = 8 })
+          (record { depots = true; start = 8 * number - length maker; size = 8 })).start ≤ 8 * number
+      go true = omega arith
+      go false = omega arith
 
 -- where the first broken record is shown
 module _ (maker depot l : List ℕ) (number : ℕ) (e : answered (broken number) ≡ test_says maker depot l) where

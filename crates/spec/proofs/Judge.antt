@@ -70,6 +70,14 @@ module _ (cs ds : List Check) where
   pub judge_right : judge (cs ++ ds) passed ≡ passed → judge ds passed ≡ passed
   judge_right e = (judge_reached cs (judge ds passed) (sym (judge_append cs ds passed) ∙ e)).1
 
+-- two lists of checks, one after the other: the first refuse; or they pass, and the others decide
+module _ (cs ds : List Check) where
+  pub chain_refused : {A : Type 0} (a : Said A) {why : Refusal} → refused why ≡ judge cs passed → refused why ≡ judge (cs ++ ds) a
+  chain_refused a e = sym (judge_append cs ds a ∙ judge_refused cs (judge ds a) (sym e))
+
+  pub chain_passed : {said : Said (Unit {0})} → passed ≡ judge cs passed → said ≡ judge ds passed → said ≡ judge (cs ++ ds) passed
+  chain_passed first second = second ∙ sym (judge_then cs ds passed (sym first))
+
 -- an operation that is lent a buffer: its checks come first, and a refusal leaves the buffer as it was
 module _ {A : Type 0} (cs : List Check) (after : Said A) (new old : List ℕ) where
   pub does_refused : {why : Refusal} → judge cs passed ≡ refused why → Does (judge cs after) (written (judge cs after) new old) (refused why) old

@@ -20,7 +20,7 @@ pack_rule-requires c =
     record {
       m_bound = omega (arith, accepted.count);
       packed_len = c.loop-i.invariant.1;
-      q_value = rw c.record-q.ensures (accepted.good c.loop-i.i (omega arith));
+      q_value = rw c.record-q.ensures (accepted.good _ (search rules));
     }
 
 pub loop-i-preserved : goal.loop-i-preserved

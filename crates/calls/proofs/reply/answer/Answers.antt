@@ -71,4 +71,5 @@ returns c =
     let w : Worded c.args.line.now c.end_of-end.result = record { short = c.if-line-gt-LONGEST.false; ends = c.end_of-end.ensures } in
     let same : length (fields_of c.args.line.now) ≡ (row_at (row_number c.in-Some.call)).many + 1 =
     omega (arith, c.count_pieces.ensures, c.if-count_pieces-many.false, c.many.ensures) in
-    rw (answer_call w c.in-Some.call c.in-Some.ensures same (sym c.are_fields.ensures ∙ c.if-not-are_fields.false)) c.answer_fields.ensures
+    rw (answer_call w c.in-Some.call c.in-Some.ensures same (sym c.are_fields.ensures ∙ c.if-not-are_fields.false), ← c.row.ensures)
+    c.answer_fields.ensures

@@ -6,4 +6,4 @@ use Rattle.report.proofs.asking.next_kit.Goals as goal
 pub returns : goal.returns
 returns c =
     let does = rw c.store.ensures at c.next.ensures in
-    rw c.is_ok.ensures.value (next_at _ _ _ _ c.requires.listable _ _ _ c.requires.full does)
+    rw c.is_list.ensures (next_at _ _ _ _ c.requires.listable _ _ _ c.requires.full does)
