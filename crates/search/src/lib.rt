@@ -13,7 +13,7 @@ ghost use Rattle.search.specs.Ready.{Ready, TrialReady};
 use engine::{go_on, run_indexed};
 use index::Index;
 use look::{is_past_out, lowest_open, standing_to, still_given};
-use records::states::{IN, OUT};
+use records::states::{IN, OPEN, OUT};
 use sheet::Sheet;
 use std::cmp::Ordering;
 use tables::Tables;
@@ -52,12 +52,14 @@ fn trial(
         return Some(Sheet { states: own });
     };
     // a list with b out would stand before the given one
-    if !is_past_out(bound, b) {
-        if let Some(kit) = trial(index, n, Sheet { states: own }, b, OUT, bound, queue) {
+    let least = if is_past_out(bound, b) { IN } else { OUT };
+    // out, then in: by one call, so that a trial makes room for one answer
+    for choice in least..OPEN {
+        if let Some(kit) = trial(index, n, Sheet { states: own }, b, choice, bound, queue) {
             return Some(kit);
         }
     }
-    trial(index, n, Sheet { states: own }, b, IN, bound, queue)
+    None
 }
 
 // The first kit of the sheet, and where a list is given, the first strictly after it.

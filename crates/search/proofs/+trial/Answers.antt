@@ -1,13 +1,17 @@
 -- `search::trial` meets its contract: a trial's answer comes from its branches', and each has fewer open boxes.
 -- Assumes nothing.
-use Rattle.std.proofs.Common.{◌≡◌, ◌∙◌, true, false, ℕ, ◌≤◌, ◌<◌, unwrap_or, refl, sym, set, arith, rules}
+use Rattle.std.proofs.Common.{◌≡◌, ◌∙◌, true, false, Some, None, ℕ, zero, suc, ◌≤◌, ◌<◌, unwrap_or, refl, sym, set, arith, rules}
 use Rattle.spec.specs.Fill.{open_count}
 use Rattle.engine.specs.Queue.{rules_of}
+use borrow.Author.Count.{below_more}
+use Rattle.std.specs.declared.cmp.Ordering.TheVariants.{Less}
+use Rattle.sheet.specs.declared.Sheet.{Sheet}
+use Rattle.search.specs.Look.{Asks, Finds}
 use Rattle.search.specs.Ready.{TrialReady}
 use Rattle.search.proofs.Trials.{filled_front, filled_same, low_after, Looked, trial_clash, trial_before, trial_full}
 use Rattle.search.proofs.Trials.{branch_ready, branch_falls, out_before, trial_out, trial_in}
 use Rattle.search.proofs.+trial.Goals.{After-standing_to-standing, In-Some}
-use Rattle.search.proofs.+trial.Goals.{then-not-is_past_out+in_default-trial, else-not-is_past_out}
+use Rattle.search.proofs.+trial.Goals.{then-is_past_out, else-is_past_out}
 use Rattle.search.proofs.+trial.Goals as goal
 
 -- what is known once the given list has been looked at, if b is the lowest open box
@@ -46,6 +50,20 @@ handed t c v small =
         trial = branch_ready began.trial seen c.still_given-bound.ensures (search rules) below v small;
       },
     )
+
+-- the kit of a choice is the answer, where those before have none
+found : (t : ℕ) (c : In-Some t) (ahead : c.standing_to-standing.result ≡ Less → ⊥) (v : ℕ) → v ≤ 1 →
+    ((u : ℕ) → u < v →
+    Finds (Asks (rules_of c.args.index.now) c.args.n (set c.go_on.new.states c.in-Some.b u) c.still_given-bound.result) c.args.n None) →
+    (kit : Sheet) →
+    Finds (Asks (rules_of c.args.index.now) c.args.n (set c.go_on.new.states c.in-Some.b v) c.still_given-bound.result) c.args.n (Some kit) →
+    Finds (Asks (rules_of c.args.index.now) c.args.n (set c.args.sheet.states c.args.from c.args.state) c.args.given) c.args.n (Some kit)
+found t c ahead zero small none kit a =
+    trial_out c.requires.trial_ready.trial (looked_open t c) c.still_given-bound.ensures ahead c.in-Some.ensures.below kit a
+found t c ahead (suc zero) small none kit a =
+    trial_in c.requires.trial_ready.trial (looked_open t c) c.still_given-bound.ensures ahead c.in-Some.ensures.below
+    (none 0 (omega arith)) (Some kit) a
+found t c ahead (suc (suc v)) small none kit a = absurd (omega arith)
 
 pub returns-in_default-clause-answer_to : goal.returns-in_default-clause-answer_to
 returns-in_default-clause-answer_to t c =
@@ -86,29 +104,36 @@ returns-in_default-lowest-clause-answer_to t c =
 
 pub trial-requires : goal.trial-requires
 trial-requires t c =
-    let (falls, ready) = handed t (goal.at.trial-requires t c).In-Some 0 (omega arith) in
-    (omega (arith, falls), (ready, c.in-Ok.ensures.queue_len_2))
+    let (falls, ready) = handed t (goal.at.trial-requires t c).In-Some c.loop-choice.choice (omega arith) in
+    (omega (arith, falls), (ready, c.loop-choice.invariant.0))
+
+-- a branch is skipped where the given list has more than out
+pub loop-choice-init : goal.loop-choice-init
+loop-choice-init t c = (
+  c.in-Ok.ensures.queue_len_2,
+  λ v h.
+      let seen = looked_open t (goal.at.loop-choice-init t c).In-Some in
+      elim c.if-is_past_out.branch [
+        | then-is_past_out w ↦
+            let none : v ≡ 0 = omega (arith, w.least-is, h) in
+            rw none
+            (out_before c.requires.trial_ready.trial seen c.still_given-bound.ensures (search rules) c.in-Some.ensures.below
+            (c.is_past_out.ensures w.if-is_past_out.true))
+        | else-is_past_out w ↦ absurd (omega (arith, w.least-is, h))
+      ],
+)
+
+pub loop-choice-preserved : goal.loop-choice-preserved
+loop-choice-preserved t c =
+    (c.trial.ensures.queue_len_2, below_more _ _ c.loop-choice.invariant.1 (rw c.in_default-trial.is at c.trial.ensures.answer_to))
 
 pub returns-in-Some-trial-clause-answer_to : goal.returns-in-Some-trial-clause-answer_to
 returns-in-Some-trial-clause-answer_to t c =
-    trial_out c.requires.trial_ready.trial (looked_open t (goal.at.returns-in-Some-trial-clause-answer_to t c).In-Some)
-    c.still_given-bound.ensures (search rules) c.in-Some.ensures.below c.in-Some-trial.kit c.in-Some-trial.ensures.answer_to
-
-pub trial-requires-2 : goal.trial-requires-2
-trial-requires-2 t c =
-    let (falls, ready) = handed t (goal.at.trial-requires-2 t c).In-Some 1 (omega arith) in
-    (omega (arith, falls), (ready, c.if-not-is_past_out.array_long))
+    found t (goal.at.returns-in-Some-trial-clause-answer_to t c).In-Some (search rules) c.loop-choice.choice (omega arith)
+    c.loop-choice.invariant.1 c.in-Some-trial.kit c.in-Some-trial.ensures.answer_to
 
 pub returns-clause-answer_to : goal.returns-clause-answer_to
 returns-clause-answer_to t c =
-    let began = c.requires.trial_ready in
-    let seen = looked_open t (goal.at.returns-clause-answer_to t c).In-Some in
-    let below = c.in-Some.ensures.below in
-    trial_in began.trial seen c.still_given-bound.ensures (search rules) below
-    -- the branch with the box out has been tried in vain, or skipped since the given list has more than out
-    (elim c.if-not-is_past_out.branch [
-      | then-not-is_past_out+in_default-trial w ↦ rw w.in_default-trial.is at w.trial.ensures.answer_to
-      | else-not-is_past_out w ↦
-          out_before began.trial seen c.still_given-bound.ensures (search rules) below (c.is_past_out.ensures w.if-not-is_past_out.false)
-    ])
-    c.trial-2.result c.trial-2.ensures.answer_to
+    trial_in c.requires.trial_ready.trial (looked_open t (goal.at.returns-clause-answer_to t c).In-Some)
+    c.still_given-bound.ensures (search rules) c.in-Some.ensures.below (c.loop-choice.invariant.1 0 (omega arith)) None
+    (c.loop-choice.invariant.1 1 (omega arith))
