@@ -1,4 +1,4 @@
--- A trial's branches have fewer open boxes.
+-- A trial's branches have fewer open boxes; and what is known before each choice of its loop.
 -- Assumes nothing.
 use mathlib.Core.Path.{◌≡◌}
 use Prim.Native.Nat.{ℕ, ◌<◌}
